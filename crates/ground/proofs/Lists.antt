@@ -1,0 +1,34 @@
+-- Laws of lists: a property of every element, and one list put after another. Assumes nothing.
+use Prim.Native.Nat.{ℕ, zero, suc, _<_}
+use native.Mathlib.Nat.{not-suc-le-zero, le-of-suc-le-suc}
+use mathlib.Core.Path.{_≡_, refl}
+use mathlib.Core.List.{List, [], _∷_, _++_, map, flatMap}
+use lib.ListN.{length, getD}
+use Rattle.ground.specs.Lists.{All}
+
+module _ {A : Type 0} where
+  pub all-append : (P : A → Type 0) (xs ys : List A) → All P xs → All P ys → All P (xs ++ ys)
+  all-append P [] ys h k = k
+  all-append P (x ∷ xs) ys h k = (h .0, all-append P xs ys (h .1) k)
+
+  pub all-at : (P : A → Type 0) (d : A) (xs : List A) → All P xs → (k : ℕ) → k < length xs → P (getD xs k d)
+  all-at P d [] h k l = absurd (not-suc-le-zero l)
+  all-at P d (x ∷ xs) h zero l = h .0
+  all-at P d (x ∷ xs) h (suc k) l = all-at P d xs (h .1) k (le-of-suc-le-suc l)
+
+  pub all-map : (P Q : A → Type 0) → ((x : A) → P x → Q x) → (xs : List A) → All P xs → All Q xs
+  all-map P Q f [] h = tt
+  all-map P Q f (x ∷ xs) h = (f x (h .0), all-map P Q f xs (h .1))
+
+module _ {A B : Type 0} where
+  -- what is made of each element has the property, so the whole has
+  pub all-flatMap : (P : A → Type 0) (Q : B → Type 0) (f : A → List B) → ((x : A) → P x → All Q (f x)) → (xs : List A) → All P xs → All Q (flatMap f xs)
+  unfolding flatMap
+  all-flatMap P Q f h [] k = tt
+  all-flatMap P Q f h (x ∷ xs) k = all-append Q (f x) (flatMap f xs) (h x (k .0)) (all-flatMap P Q f h xs (k .1))
+
+  -- an element of what a map makes, at a place within it
+  pub map-at : (f : A → B) (d : A) (e : B) (xs : List A) (k : ℕ) → k < length xs → getD (map f xs) k e ≡ f (getD xs k d)
+  map-at f d e [] k l = absurd (not-suc-le-zero l)
+  map-at f d e (x ∷ xs) zero l = refl
+  map-at f d e (x ∷ xs) (suc k) l = map-at f d e xs k (le-of-suc-le-suc l)

@@ -1,0 +1,52 @@
+-- Lists: numbers in a row, and what a test finds in a list.
+use Prim.Native.Nat.{ℕ, zero, suc}
+use mathlib.Core.Bool.{Bool, true, false, _&&_, _||_}
+use mathlib.Core.List.{List, [], _∷_}
+use mathlib.Core.Option.{Option, none, some}
+use Rattle.ground.specs.Tests.{if_then_else_}
+
+-- n numbers from `start` on, rising
+unfoldable pub from : ℕ → ℕ → List ℕ
+from start zero = []
+from start (suc n) = start ∷ from (suc start) n
+
+-- 0, 1, 2 .. up to n - 1
+abbrev pub below : ℕ → List ℕ
+below n = from 0 n
+
+module _ {A : Type 0} where
+  -- the test holds of each element; of some element
+  unfoldable pub all : (A → Bool) → List A → Bool
+  all test [] = true
+  all test (x ∷ xs) = test x && all test xs
+
+  unfoldable pub any : (A → Bool) → List A → Bool
+  any test [] = false
+  any test (x ∷ xs) = test x || any test xs
+
+  -- the elements of which the test holds, in order; how many there are; the first of them
+  unfoldable pub keepIf : (A → Bool) → List A → List A
+  keepIf test [] = []
+  keepIf test (x ∷ xs) = if test x then x ∷ keepIf test xs else keepIf test xs
+
+  unfoldable pub countIf : (A → Bool) → List A → ℕ
+  countIf test [] = 0
+  countIf test (x ∷ xs) = if test x then suc (countIf test xs) else countIf test xs
+
+  unfoldable pub findIf : (A → Bool) → List A → Option A
+  findIf test [] = none
+  findIf test (x ∷ xs) = if test x then some x else findIf test xs
+
+  -- the first element that is there
+  abbrev pub orElse : Option A → Option A → Option A
+  orElse none other = other
+  orElse (some x) other = some x
+
+  unfoldable pub firstOf : List (Option A) → Option A
+  firstOf [] = none
+  firstOf (x ∷ xs) = orElse x (firstOf xs)
+
+  -- every element has the property
+  abbrev pub All : (A → Type 0) → List A → Type 0
+  All P [] = Unit {0}
+  All P (x ∷ xs) = P x × All P xs

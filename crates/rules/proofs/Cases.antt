@@ -1,0 +1,85 @@
+-- Cases 1 to 12 of docs/RULES.md, section 14: one table, and one theorem that all of them hold. Assumes nothing.
+use Prim.Native.Nat.{ℕ}
+use mathlib.Core.Path.{_≡_, refl}
+use mathlib.Core.List.{List, [], _∷_, map, flatMap}
+use lib.IntN.{ℤ, pos, negsuc}
+use Rattle.ground.specs.Bits.{selected, placesOf}
+use Rattle.ground.specs.Lists.{from, all, keepIf, countIf, findIf, firstOf}
+use Rattle.rules.specs.declared.Point.{Point}
+use Rattle.rules.specs.declared.Product.{Product}
+use Rattle.rules.specs.declared.Window.{Window}
+use Rattle.rules.specs.Table.{primitives}
+use Rattle.rules.specs.Verdict.{tableRefusal}
+use Rattle.rules.specs.Tree.{treeTo, treeOf}
+use Rattle.rules.specs.Inside.{inside}
+use Rattle.rules.specs.Choices.{choices, _crossed-with_, expansion}
+use Rattle.rules.specs.Products.{firsts, products}
+use Rattle.rules.specs.Refusals.{refuse}
+use Rattle.rules.specs.Told.{Told, fine, sound, inside as is-inside, outside, tell}
+use Rattle.rules.specs.TreeCalls.{treePointRefusal, pointTale}
+use Rattle.rules.proofs.Zones.{q, qApart, farCuts, crossing, cutOfCut, swapped, wedge, drum, twoBoxes, columnsOf, full, at}
+
+-- what the definitions say of a zone
+pub data Says : Type 0 where
+  lists : List Product → Says
+  expands : ℕ → Says
+  tells : Told → Says
+
+pub record Case : Type 0 where
+  pub number : ℕ
+  pub says : Says
+  pub expected : Says
+
+abbrev listIn : Window → List ℤ → Says
+listIn w t = lists (products w (primitives t) (treeOf t))
+
+abbrev point : List ℤ → Point → Says
+point t p = tells (tell (treePointRefusal t p) (pointTale (inside (treeOf t) p)))
+
+abbrev check : List ℤ → Says
+check t = tells (tell (tableRefusal t) sound)
+
+abbrev product : ℕ → ℕ → Product
+product plain cuts = record { plain = plain; cuts = cuts }
+
+abbrev isIn : Says
+isIn = tells (fine is-inside)
+
+abbrev isOut : Says
+isOut = tells (fine outside)
+
+abbrev row : ℕ → Says → Says → Case
+row number says expected = record { number = number; says = says; expected = expected }
+
+abbrev cases : List Case
+cases =
+    row 1 (listIn (columnsOf (negsuc 99) (pos 100)) q) (lists (product 9 2 ∷ product 12 0 ∷ []))
+    ∷ row 2 (listIn (columnsOf (pos 0) (pos 15)) q) (lists (product 9 2 ∷ []))
+    ∷ row 3 (listIn (columnsOf (pos 0) (pos 7)) q) (lists [])
+    ∷ row 4 (listIn (columnsOf (negsuc 99) (pos 100)) qApart) (lists (product 9 0 ∷ product 12 0 ∷ []))
+    ∷ row 5 (point q (at 8 0)) isIn
+    ∷ row 5 (point q (at 20 0)) isIn
+    ∷ row 5 (point q (at 21 0)) isIn
+    ∷ row 5 (point q (at 22 0)) isIn
+    ∷ row 5 (point q (at 23 0)) isIn
+    ∷ row 5 (point q (at 24 0)) isIn
+    ∷ row 5 (point q (at 25 0)) isIn
+    ∷ row 5 (point q (at 9 0)) isOut
+    ∷ row 5 (point q (at 26 0)) isOut
+    ∷ row 6 (expands (expansion (treeOf farCuts))) (expands 2)
+    ∷ row 6 (listIn full farCuts) (lists (product 1 0 ∷ []))
+    ∷ row 7 (listIn full crossing) (lists (product 5 0 ∷ product 6 0 ∷ product 9 0 ∷ product 10 0 ∷ []))
+    ∷ row 8 (listIn full cutOfCut) (lists (product 1 2 ∷ product 5 0 ∷ []))
+    ∷ row 9 (listIn full swapped) (lists (product 2 1 ∷ []))
+    ∷ row 10 (point wedge (at 2 1)) isIn
+    ∷ row 10 (point wedge (at 3 1)) isOut
+    ∷ row 11 (point drum (at 3 2)) isIn
+    ∷ row 11 (point drum (at 5 0)) isIn
+    ∷ row 11 (point drum (at 4 2)) isOut
+    ∷ row 11 (point drum (at 5 1)) isOut
+    ∷ row 12 (check twoBoxes) (tells (tell (refuse 5 0) sound))
+    ∷ []
+
+pub cases-hold : map (λ (c : Case). c .says) cases ≡ map (λ (c : Case). c .expected) cases
+unfolding tableRefusal treeTo inside choices _crossed-with_ firsts products from all keepIf countIf findIf firstOf selected placesOf flatMap
+cases-hold = refl

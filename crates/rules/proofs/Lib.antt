@@ -1,0 +1,7 @@
+pub mod Zones
+pub mod Cases
+pub mod Numbers
+pub mod Lines
+pub mod Told
+pub mod Settled
+pub mod Impostors

@@ -1,0 +1,111 @@
+-- Every record settles its call: any two outcomes that meet it are the same, and one that is a refusal leaves the lent buffer as it was.
+-- Assumes nothing.
+use Prim.Native.Nat.{ℕ, _≤_, _<_}
+use native.Mathlib.Omega.{arith}
+use native.Mathlib.Decide.{decLt}
+use mathlib.Core.List.{List, [], _∷_}
+use mathlib.Core.Option.{Option, none, some}
+use mathlib.Core.Path.{_≡_, refl, sym, ap, subst, _∙_}
+use lib.IntN.{ℤ}
+use lib.ListN.{length}
+use Rattle.ground.specs.Lists.{All, firstOf}
+use Rattle.rules.specs.declared.Checked.{Checked}
+use Rattle.rules.specs.declared.Located.{Located}
+use Rattle.rules.specs.declared.Place.{Place}
+use Rattle.rules.specs.declared.Point.{Point}
+use Rattle.rules.specs.declared.Refusal.{Refusal}
+use Rattle.rules.specs.declared.Searched.{Searched}
+use Rattle.rules.specs.declared.Window.{Window}
+use Rattle.rules.specs.declared.Written.{Written}
+use Rattle.rules.specs.declared.Written.the-variants.{Refused}
+use Rattle.rules.specs.Table.{mostRows}
+use Rattle.rules.specs.Verdict.{tableRefusal}
+use Rattle.rules.specs.Refusals.{roomRefusal}
+use Rattle.rules.specs.Text.{TextRow, textOf, tableOf}
+use Rattle.rules.specs.TextForm.{linesOf, RightRow, FirstFault, TextForm, too-long, faulty, spelt}
+use Rattle.rules.specs.Told.{Told, refused, wrote, tell}
+use Rattle.rules.specs.Outcome.{leave}
+use Rattle.rules.specs.TreeCalls.{TableChecked, TreeLocated, TreeSearched}
+use Rattle.rules.specs.ListCalls.{zoneList, makeRefusal, ListMade, ListLocated, ListSearched}
+use Rattle.rules.specs.TextCalls.{tableRead, formRefusal, readRefusal, TextRead, tableText, writeRefusal, TextWritten}
+use Rattle.rules.proofs.Told.{checked-once, located-once, searched-once, written-once}
+use Rattle.rules.proofs.Lines.{text-once, spelt-right}
+
+-- ---- calls that only answer
+
+pub checked-settled : {t : List ℤ} {r s : Checked} → TableChecked t r → TableChecked t s → r ≡ s
+checked-settled {r = r} {s = s} p q = checked-once r s (p .answer ∙ sym (q .answer))
+
+pub tree-located-settled : {t : List ℤ} {p : Point} {r s : Located} → TreeLocated t p r → TreeLocated t p s → r ≡ s
+tree-located-settled {r = r} {s = s} p q = located-once r s (p .answer ∙ sym (q .answer))
+
+pub tree-searched-settled : {t samples : List ℤ} {place : Place} {r s : Searched} → TreeSearched t samples place r → TreeSearched t samples place s → r ≡ s
+tree-searched-settled {r = r} {s = s} p q = searched-once r s (p .answer ∙ sym (q .answer))
+
+pub list-located-settled : {t : List ℤ} {list : List ℕ} {p : Point} {r s : Located} → ListLocated t list p r → ListLocated t list p s → r ≡ s
+list-located-settled {r = r} {s = s} p q = located-once r s (p .answer ∙ sym (q .answer))
+
+pub list-searched-settled : {t : List ℤ} {list : List ℕ} {samples : List ℤ} {place : Place} {r s : Searched}
+    → ListSearched t list samples place r → ListSearched t list samples place s → r ≡ s
+list-searched-settled {r = r} {s = s} p q = searched-once r s (p .answer ∙ sym (q .answer))
+
+-- ---- calls that write
+
+pub list-made-settled : {t : List ℤ} {w : Window} {before a b : List ℕ} {r s : Written} → ListMade t w before a r → ListMade t w before b s → (r ≡ s) × (a ≡ b)
+list-made-settled {r = r} {s = s} p q = (written-once r s (p .answer ∙ sym (q .answer)), p .buffer ∙ sym (q .buffer))
+
+pub text-written-settled : {t : List ℤ} {before a b : List ℕ} {r s : Written} → TextWritten t before a r → TextWritten t before b s → (r ≡ s) × (a ≡ b)
+text-written-settled {r = r} {s = s} p q = (written-once r s (p .answer ∙ sym (q .answer)), p .buffer ∙ sym (q .buffer))
+
+-- ---- a text stands in one way only
+
+fault-first : {lines : List (List ℕ)} {m n : ℕ} (a : FirstFault lines m) (b : FirstFault lines n) → a .others < b .others → ⊥
+fault-first a b l = a .wrong (b .right (a .others) l)
+
+fault-once : {lines : List (List ℕ)} {m n : ℕ} → FirstFault lines m → FirstFault lines n → m ≡ n
+fault-once {m = m} {n = n} a b = go (decLt (a .others) (b .others)) (decLt (b .others) (a .others))
+  where
+    go : Dec (a .others < b .others) → Dec (b .others < a .others) → m ≡ n
+    go (yes l) d = absurd (fault-first a b l)
+    go (no l) (yes g) = absurd (fault-first b a g)
+    go (no l) (no g) = omega (arith, a .counted, b .counted)
+
+spelt-no-fault : (rows : List TextRow) → 1 ≤ length rows → length rows ≤ mostRows → All RightRow rows → {text : List ℕ} → text ≡ textOf rows
+    → {line : ℕ} → FirstFault (linesOf text) line → ⊥
+spelt-no-fault rows some-row not-over right is {line = line} fault =
+    let f : FirstFault (linesOf (textOf rows)) line = subst (λ (bytes : List ℕ). FirstFault (linesOf bytes) line) is fault in
+    f .wrong (spelt-right rows some-row not-over right (f .others))
+
+pub form-once : {text : List ℕ} (f g : TextForm text) → (formRefusal f ≡ formRefusal g) × (tableRead f ≡ tableRead g)
+form-once (too-long l) (too-long m) = (refl, refl)
+form-once (too-long l) (faulty n short fault) = absurd (omega arith)
+form-once (too-long l) (spelt rows short some-row not-over right is) = absurd (omega arith)
+form-once (faulty m short fault) (too-long l) = absurd (omega arith)
+form-once (faulty m short fault) (faulty n short′ fault′) = (ap (λ (line : ℕ). some (record { number = 13; value = line })) (fault-once fault fault′), refl)
+form-once (faulty m short fault) (spelt rows short′ some-row not-over right is) = absurd (spelt-no-fault rows some-row not-over right is fault)
+form-once (spelt rows short some-row not-over right is) (too-long l) = absurd (omega arith)
+form-once (spelt rows short some-row not-over right is) (faulty n short′ fault) = absurd (spelt-no-fault rows some-row not-over right is fault)
+form-once (spelt rows short some-row not-over right is) (spelt rows′ short′ some-row′ not-over′ right′ is′) = (refl, ap tableOf (text-once rows rows′ right right′ (sym is ∙ is′)))
+
+pub text-read-settled : {text : List ℕ} {before a b : List ℤ} {r s : Written} → TextRead text before a r → TextRead text before b s → (r ≡ s) × (a ≡ b)
+text-read-settled {before = before} {r = r} {s = s} p q =
+    let once = form-once (p .form) (q .form) in
+    let ruling : (x : Option Refusal) (t : List ℤ) → Option Refusal = λ x t. firstOf (x ∷ tableRefusal t ∷ roomRefusal (length t) (length before) ∷ []) in (
+      written-once r s (p .answer ∙ (λ i. tell (ruling (once .0 i) (once .1 i)) (wrote (length (once .1 i)))) ∙ sym (q .answer)),
+      p .buffer ∙ (λ i. leave (ruling (once .0 i) (once .1 i)) (once .1 i) before) ∙ sym (q .buffer),
+    )
+
+-- ---- a refusal leaves the buffer as it was
+
+keeps : {A : Type 0} (x : Option Refusal) (result before : List A) {r : Refusal} → refused r ≡ tell x (wrote (length result)) → leave x result before ≡ before
+keeps none result before e = let t = ap (λ (told : Told). told .tale) e in let z : _≡_ {A = ℕ} 0 1 = cc in absurd (omega arith)
+keeps (some q) result before e = refl
+
+pub list-made-keeps : {t : List ℤ} {w : Window} {before after : List ℕ} {r : Refusal} → ListMade t w before after (Refused r) → after ≡ before
+list-made-keeps {t} {w} {before} p = p .buffer ∙ keeps (makeRefusal t w (length before)) (zoneList t w) before (p .answer)
+
+pub text-read-keeps : {text : List ℕ} {before after : List ℤ} {r : Refusal} → TextRead text before after (Refused r) → after ≡ before
+text-read-keeps {before = before} p = p .buffer ∙ keeps (readRefusal (p .form) (length before)) (tableRead (p .form)) before (p .answer)
+
+pub text-written-keeps : {t : List ℤ} {before after : List ℕ} {r : Refusal} → TextWritten t before after (Refused r) → after ≡ before
+text-written-keeps {t} {before} p = p .buffer ∙ keeps (writeRefusal t (length before)) (tableText t) before (p .answer)

@@ -1,0 +1,73 @@
+-- The zones and windows of the numbered cases, as tables of words. Assumes nothing.
+use Prim.Native.Nat.{ℕ}
+use mathlib.Core.List.{List, [], _∷_, _++_}
+use lib.IntN.{ℤ, pos, negsuc}
+use Rattle.rules.specs.declared.Point.{Point}
+use Rattle.rules.specs.declared.Window.{Window}
+
+abbrev pub zero : ℤ
+zero = pos 0
+
+-- a box of columns lo..hi; its codes and frames are 0..0
+abbrev pub box : ℤ → ℤ → List ℤ
+box lo hi = zero ∷ lo ∷ hi ∷ zero ∷ zero ∷ zero ∷ zero ∷ zero ∷ zero ∷ zero ∷ zero ∷ zero ∷ []
+
+abbrev operation : ℕ → ℕ → ℕ → List ℤ
+operation kind left right = pos kind ∷ pos left ∷ pos right ∷ zero ∷ zero ∷ zero ∷ zero ∷ zero ∷ zero ∷ zero ∷ zero ∷ zero ∷ []
+
+abbrev pub union : ℕ → ℕ → List ℤ
+union left right = operation 3 left right
+
+abbrev pub inter : ℕ → ℕ → List ℤ
+inter left right = operation 4 left right
+
+abbrev pub diff : ℕ → ℕ → List ℤ
+diff left right = operation 5 left right
+
+-- Q = ((A - B) ∪ C) ∩ D, B from a given column on
+abbrev qFrom : ℤ → List ℤ
+qFrom b = box zero (pos 9) ++ (box b (pos 12) ++ (diff 0 1 ++ (box (pos 20) (pos 29) ++ (union 2 3 ++ (box (pos 8) (pos 25) ++ inter 4 5)))))
+
+abbrev pub q : List ℤ
+q = qFrom (pos 9)
+
+abbrev pub qApart : List ℤ
+qApart = qFrom (pos 10)
+
+-- A - (B ∩ C), three boxes apart
+abbrev pub farCuts : List ℤ
+farCuts = box zero (pos 9) ++ (box (pos 20) (pos 29) ++ (box (pos 40) (pos 49) ++ (inter 1 2 ++ diff 0 3)))
+
+abbrev nine : List ℤ
+nine = box zero (pos 9)
+
+-- (A ∪ B) ∩ (C ∪ D), A - (B - C), and B - A, all 0..9
+abbrev pub crossing : List ℤ
+crossing = nine ++ (nine ++ (union 0 1 ++ (nine ++ (nine ++ (union 3 4 ++ inter 2 5)))))
+
+abbrev pub cutOfCut : List ℤ
+cutOfCut = nine ++ (nine ++ (nine ++ (diff 1 2 ++ diff 0 3)))
+
+abbrev pub swapped : List ℤ
+swapped = nine ++ (nine ++ diff 1 0)
+
+-- 2x - 3y <= 1 in x, y 0..10
+abbrev pub wedge : List ℤ
+wedge = pos 1 ∷ zero ∷ pos 10 ∷ zero ∷ pos 10 ∷ zero ∷ zero ∷ pos 2 ∷ negsuc 2 ∷ zero ∷ pos 1 ∷ zero ∷ []
+
+-- at 0, 0, radii 5 and 3
+abbrev pub drum : List ℤ
+drum = pos 2 ∷ zero ∷ zero ∷ pos 5 ∷ pos 3 ∷ zero ∷ zero ∷ zero ∷ zero ∷ zero ∷ zero ∷ zero ∷ []
+
+abbrev pub twoBoxes : List ℤ
+twoBoxes = nine ++ nine
+
+-- a window of columns; its codes and frames are full
+abbrev pub columnsOf : ℤ → ℤ → Window
+columnsOf lo hi = record { xlo = lo; xhi = hi; ylo = negsuc 32767; yhi = pos 32767; zlo = negsuc 32767; zhi = pos 32767 }
+
+abbrev pub full : Window
+full = columnsOf (negsuc 32767) (pos 32767)
+
+abbrev pub at : ℕ → ℕ → Point
+at x y = record { x = pos x; y = pos y; z = zero }

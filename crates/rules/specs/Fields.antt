@@ -1,0 +1,68 @@
+-- Section 2 of docs/RULES.md: what a row's fields, spare words and children must be.
+use Prim.Native.Nat.{ℕ, _+_, _-_}
+use mathlib.Core.Bool.{Bool, true, false, not, _&&_}
+use lib.Dec.{ltb}
+use lib.IntN.{ℤ, pos, negsuc, _+ℤ_, _-ℤ_}
+use lib.Signed.{leZ}
+use Rattle.ground.specs.Tests.{eqZ}
+use Rattle.ground.specs.Lists.{from, all}
+use Rattle.rules.specs.declared.BoxShape.{BoxShape}
+use Rattle.rules.specs.declared.WedgeShape.{WedgeShape}
+use Rattle.rules.specs.declared.DrumShape.{DrumShape}
+use Rattle.rules.specs.declared.Kind.{Kind}
+use Rattle.rules.specs.declared.Kind.the-variants.{Box, Wedge, Drum, Union, Inter, Diff}
+use Rattle.rules.specs.Ranges.{Span, within, columns, codes, frames}
+use Rattle.rules.specs.Kinds.{namedWords}
+use Rattle.rules.specs.Table.{rowWords, boxShape, wedgeShape, drumShape}
+
+abbrev pub slopes : Span
+slopes = record { lo = negsuc 32767; hi = pos 32767 }
+
+abbrev pub radii : Span
+radii = record { lo = pos 1; hi = pos 4096 }
+
+-- both ends are coordinates, and lo <= hi
+abbrev pub endsRight : Span → ℤ → ℤ → Bool
+endsRight range lo hi = within range lo && (within range hi && leZ lo hi)
+
+abbrev pub boxRight : BoxShape → Bool
+boxRight b = endsRight columns (b .xlo) (b .xhi) && (endsRight codes (b .ylo) (b .yhi) && endsRight frames (b .zlo) (b .zhi))
+
+abbrev pub flat : WedgeShape → Bool
+flat w = eqZ (w .a) (pos 0) && (eqZ (w .b) (pos 0) && eqZ (w .c) (pos 0))
+
+-- d is any 32-bit value
+abbrev pub wedgeRight : WedgeShape → Bool
+wedgeRight w = boxRight (w .bounds) && (within slopes (w .a) && (within slopes (w .b) && (within slopes (w .c) && not (flat w))))
+
+-- the centre plus and minus a radius is in range
+abbrev pub reachRight : Span → ℤ → ℤ → Bool
+reachRight range centre radius = within radii radius && (within range (centre -ℤ radius) && within range (centre +ℤ radius))
+
+abbrev pub drumRight : DrumShape → Bool
+drumRight d = reachRight columns (d .cx) (d .rx) && (reachRight codes (d .cy) (d .ry) && endsRight frames (d .zlo) (d .zhi))
+
+abbrev pub fieldsRight : Kind → (ℕ → ℤ) → Bool
+fieldsRight Box w = boxRight (boxShape w)
+fieldsRight Wedge w = wedgeRight (wedgeShape w)
+fieldsRight Drum w = drumRight (drumShape w)
+fieldsRight Union w = true
+fieldsRight Inter w = true
+fieldsRight Diff w = true
+
+-- the words that a kind does not name are 0
+abbrev pub spareRight : Kind → (ℕ → ℤ) → Bool
+spareRight k w = all (λ i. eqZ (w i) (pos 0)) (from (1 + namedWords k) (rowWords - (1 + namedWords k)))
+
+-- a child is an earlier row
+abbrev pub earlier : ℕ → ℤ → Bool
+earlier row (pos child) = ltb child row
+earlier row (negsuc child) = false
+
+abbrev pub childrenRight : Kind → (ℕ → ℤ) → ℕ → Bool
+childrenRight Box w row = true
+childrenRight Wedge w row = true
+childrenRight Drum w row = true
+childrenRight Union w row = earlier row (w 1) && earlier row (w 2)
+childrenRight Inter w row = earlier row (w 1) && earlier row (w 2)
+childrenRight Diff w row = earlier row (w 1) && earlier row (w 2)

@@ -1,0 +1,57 @@
+-- Section 10 of docs/RULES.md: a frame's samples, and what a search finds among them.
+use Prim.Native.Nat.{ℕ}
+use mathlib.Core.Bool.{Bool, _||_}
+use mathlib.Core.List.{List, [], _∷_, map}
+use mathlib.Core.Option.{Option}
+use lib.Dec.{eqb, ltb}
+use lib.IntN.{ℤ, pos, _+ℤ_}
+use lib.ListN.{length, getD}
+use Rattle.ground.specs.Lists.{below, all, any, countIf, findIf, firstOf}
+use Rattle.rules.specs.declared.Place.{Place}
+use Rattle.rules.specs.declared.Point.{Point}
+use Rattle.rules.specs.declared.Refusal.{Refusal}
+use Rattle.rules.specs.Ranges.{within, columns, frames}
+use Rattle.rules.specs.Boxes.{Box, holds}
+use Rattle.rules.specs.Refusals.{refuseIf, refuseUnless}
+
+abbrev pub mostSamples : ℕ
+mostSamples = 65536
+
+-- sample k stands at column first + k
+abbrev pub column : Place → ℕ → ℤ
+column place k = place .first +ℤ pos k
+
+abbrev pub codeAt : List ℤ → ℕ → ℤ
+codeAt samples k = getD samples k (pos 0)
+
+-- the codes that the column of sample k holds: its own
+abbrev pub heldCodes : List ℤ → ℕ → List ℤ
+heldCodes samples k = codeAt samples k ∷ []
+
+abbrev pub pointOf : Place → ℕ → ℤ → Point
+pointOf place k code = record { x = column place k; y = code; z = place .frame }
+
+-- frame empty or too long; a column out of range; the frame number out of range (12)
+abbrev pub frameRefusal : List ℤ → Place → Option Refusal
+frameRefusal samples place =
+    firstOf
+    (refuseIf (eqb (length samples) 0 || ltb mostSamples (length samples)) 12 0
+    ∷ refuseUnless (all (λ k. within columns (column place k)) (below (length samples))) 12 1
+    ∷ refuseUnless (within frames (place .frame)) 12 2
+    ∷ [])
+
+-- the first sample that is out of a window (10)
+abbrev pub leavesRefusal : Box → List ℤ → Place → Option Refusal
+leavesRefusal window samples place =
+    firstOf (map (λ k. refuseUnless (holds window (pointOf place k (codeAt samples k))) 10 k) (below (length samples)))
+
+-- over any way to be inside, that of a tree or that of a list
+module _ (isInside : Point → Bool) (samples : List ℤ) (place : Place) where
+  abbrev pub sampleInside : ℕ → Bool
+  sampleInside k = any (λ code. isInside (pointOf place k code)) (heldCodes samples k)
+
+  unfoldable pub firstInside : Option ℕ
+  firstInside = findIf sampleInside (below (length samples))
+
+  unfoldable pub insideCount : ℕ
+  insideCount = countIf sampleInside (below (length samples))

@@ -1,0 +1,46 @@
+-- Section 5 of docs/RULES.md: when a point is inside a primitive, and inside a tree, by the set operations of document 000.
+use mathlib.Core.Bool.{Bool, not, _&&_, _||_}
+use lib.IntN.{ℤ, _+ℤ_, _-ℤ_, _*ℤ_}
+use lib.Signed.{leZ}
+use Rattle.rules.specs.declared.Point.{Point}
+use Rattle.rules.specs.declared.BoxShape.{BoxShape}
+use Rattle.rules.specs.declared.WedgeShape.{WedgeShape}
+use Rattle.rules.specs.declared.DrumShape.{DrumShape}
+use Rattle.rules.specs.declared.Primitive.{Primitive}
+use Rattle.rules.specs.declared.Primitive.the-variants as primitive
+use Rattle.rules.specs.Ranges.{within}
+use Rattle.rules.specs.Boxes.{Box, holds}
+use Rattle.rules.specs.Tree.{Tree, solid, union, inter, diff}
+
+-- the six bounds as a box
+abbrev pub bounds : BoxShape → Box
+bounds b = record {
+  x = record { lo = b .xlo; hi = b .xhi };
+  y = record { lo = b .ylo; hi = b .yhi };
+  z = record { lo = b .zlo; hi = b .zhi };
+}
+
+-- ax + by + cz <= d
+abbrev pub underPlane : WedgeShape → Point → Bool
+underPlane w p = leZ (w .a *ℤ p .x +ℤ w .b *ℤ p .y +ℤ w .c *ℤ p .z) (w .d)
+
+abbrev pub square : ℤ → ℤ
+square v = v *ℤ v
+
+-- ry²(x-cx)² + rx²(y-cy)² <= rx²ry²
+abbrev pub inEllipse : DrumShape → Point → Bool
+inEllipse d p =
+    leZ
+    (square (d .ry) *ℤ square (p .x -ℤ d .cx) +ℤ square (d .rx) *ℤ square (p .y -ℤ d .cy))
+    (square (d .rx) *ℤ square (d .ry))
+
+abbrev pub insideSolid : Primitive → Point → Bool
+insideSolid (primitive.Box b) p = holds (bounds b) p
+insideSolid (primitive.Wedge w) p = holds (bounds (w .bounds)) p && underPlane w p
+insideSolid (primitive.Drum d) p = within (record { lo = d .zlo; hi = d .zhi }) (p .z) && inEllipse d p
+
+unfoldable pub inside : Tree → Point → Bool
+inside (solid number s) p = insideSolid s p
+inside (union left right) p = inside left p || inside right p
+inside (inter left right) p = inside left p && inside right p
+inside (diff left right) p = inside left p && not (inside right p)

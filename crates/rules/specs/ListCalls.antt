@@ -1,0 +1,93 @@
+-- Section 13 of docs/RULES.md: what making a list promises, and what the calls that answer from a list promise.
+use Prim.Native.Nat.{ℕ}
+use mathlib.Core.Bool.{_&&_}
+use mathlib.Core.Path.{_≡_}
+use mathlib.Core.List.{List, [], _∷_}
+use mathlib.Core.Option.{Option}
+use lib.Dec.{leb}
+use lib.IntN.{ℤ}
+use lib.ListN.{length}
+use lib.Signed.{leZ}
+use Rattle.ground.specs.Lists.{firstOf}
+use Rattle.rules.specs.declared.Located.{Located}
+use Rattle.rules.specs.declared.Place.{Place}
+use Rattle.rules.specs.declared.Point.{Point}
+use Rattle.rules.specs.declared.Refusal.{Refusal}
+use Rattle.rules.specs.declared.Searched.{Searched}
+use Rattle.rules.specs.declared.Window.{Window}
+use Rattle.rules.specs.declared.Written.{Written}
+use Rattle.rules.specs.Ranges.{within, columns, codes, frames}
+use Rattle.rules.specs.Table.{primitives}
+use Rattle.rules.specs.Verdict.{tableRefusal}
+use Rattle.rules.specs.Tree.{treeOf}
+use Rattle.rules.specs.Choices.{expansion}
+use Rattle.rules.specs.Products.{products}
+use Rattle.rules.specs.ListWords.{listOf, listWindow}
+use Rattle.rules.specs.ListFaults.{listRefusal, primitivesRefusal}
+use Rattle.rules.specs.ListInside.{insideList}
+use Rattle.rules.specs.Frame.{frameRefusal, leavesRefusal, firstInside, insideCount}
+use Rattle.rules.specs.Refusals.{refuseUnless, roomRefusal}
+use Rattle.rules.specs.Told.{wrote, tell, toldLocated, toldSearched, toldWritten}
+use Rattle.rules.specs.Outcome.{leave}
+use Rattle.rules.specs.TreeCalls.{pointRefusal, pointTale, searchTale}
+
+abbrev pub mostChoices : ℕ
+mostChoices = 65536
+
+-- the first bound out of range, or hi below lo, blamed on hi (6)
+abbrev pub windowRefusal : Window → Option Refusal
+windowRefusal w =
+    firstOf
+    (refuseUnless (within columns (w .xlo)) 6 0
+    ∷ refuseUnless (within columns (w .xhi) && leZ (w .xlo) (w .xhi)) 6 1
+    ∷ refuseUnless (within codes (w .ylo)) 6 2
+    ∷ refuseUnless (within codes (w .yhi) && leZ (w .ylo) (w .yhi)) 6 3
+    ∷ refuseUnless (within frames (w .zlo)) 6 4
+    ∷ refuseUnless (within frames (w .zhi) && leZ (w .zlo) (w .zhi)) 6 5
+    ∷ [])
+
+-- too many ways of choosing (7)
+abbrev pub choicesRefusal : ℕ → Option Refusal
+choicesRefusal count = refuseUnless (leb count mostChoices) 7 count
+
+-- make a list: table, 6, 7, 8
+unfoldable pub zoneList : List ℤ → Window → List ℕ
+zoneList t w = listOf w (length (primitives t)) (products w (primitives t) (treeOf t))
+
+abbrev pub makeRefusal : List ℤ → Window → ℕ → Option Refusal
+makeRefusal t w room =
+    firstOf
+    (tableRefusal t
+    ∷ windowRefusal w
+    ∷ choicesRefusal (expansion (treeOf t))
+    ∷ roomRefusal (length (zoneList t w)) room
+    ∷ [])
+
+pub record ListMade (t : List ℤ) (w : Window) (before after : List ℕ) (r : Written) : Type 0 where
+  pub answer : toldWritten r ≡ tell (makeRefusal t w (length before)) (wrote (length (zoneList t w)))
+  pub buffer : after ≡ leave (makeRefusal t w (length before)) (zoneList t w) before
+
+-- a point in a list: table, 9, 11, 10
+abbrev pub listPointRefusal : List ℤ → List ℕ → Point → Option Refusal
+listPointRefusal t list p =
+    firstOf (tableRefusal t ∷ listRefusal list ∷ primitivesRefusal (primitives t) list ∷ pointRefusal (listWindow list) p ∷ [])
+
+pub record ListLocated (t : List ℤ) (list : List ℕ) (p : Point) (r : Located) : Type 0 where
+  pub answer : toldLocated r ≡ tell (listPointRefusal t list p) (pointTale (insideList (primitives t) list p))
+
+-- the search over a list: table, 9, 11, 12, 10
+abbrev pub listSearchRefusal : List ℤ → List ℕ → List ℤ → Place → Option Refusal
+listSearchRefusal t list samples place =
+    firstOf
+    (tableRefusal t
+    ∷ listRefusal list
+    ∷ primitivesRefusal (primitives t) list
+    ∷ frameRefusal samples place
+    ∷ leavesRefusal (listWindow list) samples place
+    ∷ [])
+
+pub record ListSearched (t : List ℤ) (list : List ℕ) (samples : List ℤ) (place : Place) (r : Searched) : Type 0 where
+  pub answer : toldSearched r
+      ≡ tell
+      (listSearchRefusal t list samples place)
+      (searchTale (firstInside (insideList (primitives t) list) samples place) (insideCount (insideList (primitives t) list) samples place))

@@ -1,0 +1,114 @@
+// The types that the rules speak of. What they mean stands in specs/; there is no function here.
+
+// Sample column, ADC code, frame number.
+pub struct Point {
+    pub x: i32,
+    pub y: i32,
+    pub z: i32,
+}
+
+// The columns, codes and frames that a list is made for; both ends belong to it.
+pub struct Window {
+    pub xlo: i32,
+    pub xhi: i32,
+    pub ylo: i32,
+    pub yhi: i32,
+    pub zlo: i32,
+    pub zhi: i32,
+}
+
+// Where a frame's samples stand: the column of sample 0, and the frame number.
+pub struct Place {
+    pub first: i32,
+    pub frame: i32,
+}
+
+// The kinds of rows, as word 0 of a row names them.
+pub enum Kind {
+    Box,
+    Wedge,
+    Drum,
+    Union,
+    Inter,
+    Diff,
+}
+
+pub struct BoxShape {
+    pub xlo: i32,
+    pub xhi: i32,
+    pub ylo: i32,
+    pub yhi: i32,
+    pub zlo: i32,
+    pub zhi: i32,
+}
+
+// The part of a box where ax + by + cz <= d.
+pub struct WedgeShape {
+    pub bounds: BoxShape,
+    pub a: i32,
+    pub b: i32,
+    pub c: i32,
+    pub d: i32,
+}
+
+// An ellipse over columns and codes, the same in each of its frames.
+pub struct DrumShape {
+    pub cx: i32,
+    pub cy: i32,
+    pub rx: i32,
+    pub ry: i32,
+    pub zlo: i32,
+    pub zhi: i32,
+}
+
+pub enum Primitive {
+    Box(BoxShape),
+    Wedge(WedgeShape),
+    Drum(DrumShape),
+}
+
+// A row of the table: a primitive, or an operation on two earlier rows, left and right.
+pub enum Row {
+    Solid(Primitive),
+    Union(usize, usize),
+    Inter(usize, usize),
+    Diff(usize, usize),
+}
+
+// Two sets of primitives, primitive i as bit i: those a point is in, and those it is out of, the cuts.
+pub struct Product {
+    pub plain: u64,
+    pub cuts: u64,
+}
+
+// Why a call did nothing: a number of the rules' table of refusals, and the value that goes with it.
+pub struct Refusal {
+    pub number: u64,
+    pub value: u64,
+}
+
+// What the check of a table answers.
+pub enum Checked {
+    Sound,
+    Refused(Refusal),
+}
+
+// What a question about one point answers.
+pub enum Located {
+    Inside,
+    Outside,
+    Refused(Refusal),
+}
+
+// What the search of a frame answers.
+pub enum Searched {
+    Clear,
+    Hit { first: usize, count: usize },
+    Refused(Refusal),
+}
+
+// What a call that writes answers: how many words or bytes it wrote.
+pub enum Written {
+    Wrote(usize),
+    Refused(Refusal),
+}
