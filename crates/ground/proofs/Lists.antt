@@ -1,10 +1,13 @@
 -- Laws of lists: a property of every element, and one list put after another. Assumes nothing.
 use Prim.Native.Nat.{ℕ, zero, suc, _<_}
 use native.Mathlib.Nat.{not-suc-le-zero, le-of-suc-le-suc}
-use mathlib.Core.Path.{_≡_, refl}
-use mathlib.Core.List.{List, [], _∷_, _++_, map, flatMap}
+use mathlib.Core.Bool.{Bool, true, false}
+use mathlib.Core.Option.{none, some}
+use mathlib.Core.Path.{_≡_, refl, sym, ap, subst, _∙_}
+use mathlib.Core.List.{List, [], _∷_, _++_, map, flatMap, append-assoc}
 use lib.ListN.{length, getD}
-use Rattle.ground.specs.Lists.{All}
+use Rattle.ground.specs.Tests.{if_then_else_}
+use Rattle.ground.specs.Lists.{All, findIf}
 
 module _ {A : Type 0} where
   pub all-append : (P : A → Type 0) (xs ys : List A) → All P xs → All P ys → All P (xs ++ ys)
@@ -20,6 +23,21 @@ module _ {A : Type 0} where
   all-map P Q f [] h = tt
   all-map P Q f (x ∷ xs) h = (f x (h .0), all-map P Q f xs (h .1))
 
+  -- what a search finds passes its test; where no element does, it finds none
+  pub found : (test : A → Bool) (xs : List A) {x : A} → findIf test xs ≡ some x → test x ≡ true
+  unfolding findIf
+  found test [] e = cc
+  found test (y ∷ ys) {x} e = go (test y) refl e (found test ys)
+    where
+      go : (b : Bool) → test y ≡ b → (if b then some y else findIf test ys) ≡ some x → (findIf test ys ≡ some x → test x ≡ true) → test x ≡ true
+      go true h k rest = let s : y ≡ x = cc in subst (λ (z : A). test z ≡ true) s h
+      go false h k rest = rest k
+
+  pub not-found : (test : A → Bool) (xs : List A) → All (λ x. test x ≡ false) xs → findIf test xs ≡ none
+  unfolding findIf
+  not-found test [] h = refl
+  not-found test (x ∷ xs) h = rw (h .0) (not-found test xs (h .1))
+
 module _ {A B : Type 0} where
   -- what is made of each element has the property, so the whole has
   pub all-flatMap : (P : A → Type 0) (Q : B → Type 0) (f : A → List B) → ((x : A) → P x → All Q (f x)) → (xs : List A) → All P xs → All Q (flatMap f xs)
@@ -32,3 +50,8 @@ module _ {A B : Type 0} where
   map-at f d e [] k l = absurd (not-suc-le-zero l)
   map-at f d e (x ∷ xs) zero l = refl
   map-at f d e (x ∷ xs) (suc k) l = map-at f d e xs k (le-of-suc-le-suc l)
+
+  pub flatMap-append : (f : A → List B) (xs ys : List A) → flatMap f (xs ++ ys) ≡ flatMap f xs ++ flatMap f ys
+  unfolding flatMap
+  flatMap-append f [] ys = refl
+  flatMap-append f (x ∷ xs) ys = ap (λ (zs : List B). f x ++ zs) (flatMap-append f xs ys) ∙ sym (append-assoc (f x) (flatMap f xs) (flatMap f ys))

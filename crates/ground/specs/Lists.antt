@@ -1,7 +1,7 @@
 -- Lists: numbers in a row, and what a test finds in a list.
-use Prim.Native.Nat.{ℕ, zero, suc}
+use Prim.Native.Nat.{ℕ, zero, suc, _-_}
 use mathlib.Core.Bool.{Bool, true, false, _&&_, _||_}
-use mathlib.Core.List.{List, [], _∷_}
+use mathlib.Core.List.{List, [], _∷_, map}
 use mathlib.Core.Option.{Option, none, some}
 use Rattle.ground.specs.Tests.{if_then_else_}
 
@@ -9,6 +9,10 @@ use Rattle.ground.specs.Tests.{if_then_else_}
 unfoldable pub from : ℕ → ℕ → List ℕ
 from start zero = []
 from start (suc n) = start ∷ from (suc start) n
+
+-- the numbers k .. n - 1
+abbrev pub rest : ℕ → ℕ → List ℕ
+rest k n = from k (n - k)
 
 -- 0, 1, 2 .. up to n - 1
 abbrev pub below : ℕ → List ℕ
@@ -45,6 +49,10 @@ module _ {A : Type 0} where
   unfoldable pub firstOf : List (Option A) → Option A
   firstOf [] = none
   firstOf (x ∷ xs) = orElse x (firstOf xs)
+
+  -- a rule for each of the numbers k .. n - 1: what the first that is broken gives
+  abbrev pub rulings : (ℕ → Option A) → ℕ → ℕ → Option A
+  rulings rule k n = firstOf (map rule (rest k n))
 
   -- every element has the property
   abbrev pub All : (A → Type 0) → List A → Type 0

@@ -1,11 +1,11 @@
 -- Section 2 of docs/RULES.md: what a row's fields, spare words and children must be.
-use Prim.Native.Nat.{ℕ, _+_, _-_}
+use Prim.Native.Nat.{ℕ, _+_}
 use mathlib.Core.Bool.{Bool, true, false, not, _&&_}
 use lib.Dec.{ltb}
 use lib.IntN.{ℤ, pos, negsuc, _+ℤ_, _-ℤ_}
 use lib.Signed.{leZ}
 use Rattle.ground.specs.Tests.{eqZ}
-use Rattle.ground.specs.Lists.{from, all}
+use Rattle.ground.specs.Lists.{rest, all}
 use Rattle.rules.specs.declared.BoxShape.{BoxShape}
 use Rattle.rules.specs.declared.WedgeShape.{WedgeShape}
 use Rattle.rules.specs.declared.DrumShape.{DrumShape}
@@ -28,12 +28,14 @@ endsRight range lo hi = within range lo && (within range hi && leZ lo hi)
 abbrev pub boxRight : BoxShape → Bool
 boxRight b = endsRight columns (b .xlo) (b .xhi) && (endsRight codes (b .ylo) (b .yhi) && endsRight frames (b .zlo) (b .zhi))
 
-abbrev pub flat : WedgeShape → Bool
-flat w = eqZ (w .a) (pos 0) && (eqZ (w .b) (pos 0) && eqZ (w .c) (pos 0))
+-- not all three are 0
+abbrev pub slopesRight : ℤ → ℤ → ℤ → Bool
+slopesRight a b c =
+    within slopes a && (within slopes b && (within slopes c && not (eqZ a (pos 0) && (eqZ b (pos 0) && eqZ c (pos 0)))))
 
 -- d is any 32-bit value
 abbrev pub wedgeRight : WedgeShape → Bool
-wedgeRight w = boxRight (w .bounds) && (within slopes (w .a) && (within slopes (w .b) && (within slopes (w .c) && not (flat w))))
+wedgeRight w = boxRight (w .bounds) && slopesRight (w .a) (w .b) (w .c)
 
 -- the centre plus and minus a radius is in range
 abbrev pub reachRight : Span → ℤ → ℤ → Bool
@@ -52,7 +54,7 @@ fieldsRight Diff w = true
 
 -- the words that a kind does not name are 0
 abbrev pub spareRight : Kind → (ℕ → ℤ) → Bool
-spareRight k w = all (λ i. eqZ (w i) (pos 0)) (from (1 + namedWords k) (rowWords - (1 + namedWords k)))
+spareRight k w = all (λ i. eqZ (w i) (pos 0)) (rest (1 + namedWords k) rowWords)
 
 -- a child is an earlier row
 abbrev pub earlier : ℕ → ℤ → Bool

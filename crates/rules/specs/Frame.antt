@@ -1,12 +1,12 @@
 -- Section 10 of docs/RULES.md: a frame's samples, and what a search finds among them.
 use Prim.Native.Nat.{ℕ}
 use mathlib.Core.Bool.{Bool, _||_}
-use mathlib.Core.List.{List, [], _∷_, map}
+use mathlib.Core.List.{List, [], _∷_}
 use mathlib.Core.Option.{Option}
 use lib.Dec.{eqb, ltb}
 use lib.IntN.{ℤ, pos, _+ℤ_}
 use lib.ListN.{length, getD}
-use Rattle.ground.specs.Lists.{below, all, any, countIf, findIf, firstOf}
+use Rattle.ground.specs.Lists.{below, all, any, countIf, findIf, firstOf, rulings}
 use Rattle.rules.specs.declared.Place.{Place}
 use Rattle.rules.specs.declared.Point.{Point}
 use Rattle.rules.specs.declared.Refusal.{Refusal}
@@ -43,7 +43,7 @@ frameRefusal samples place =
 -- the first sample that is out of a window (10)
 abbrev pub leavesRefusal : Box → List ℤ → Place → Option Refusal
 leavesRefusal window samples place =
-    firstOf (map (λ k. refuseUnless (holds window (pointOf place k (codeAt samples k))) 10 k) (below (length samples)))
+    rulings (λ k. refuseUnless (holds window (pointOf place k (codeAt samples k))) 10 k) 0 (length samples)
 
 -- over any way to be inside, that of a tree or that of a list
 module _ (isInside : Point → Bool) (samples : List ℤ) (place : Place) where

@@ -21,23 +21,27 @@ bounds b = record {
 }
 
 -- ax + by + cz <= d
-abbrev pub underPlane : WedgeShape → Point → Bool
-underPlane w p = leZ (w .a *ℤ p .x +ℤ w .b *ℤ p .y +ℤ w .c *ℤ p .z) (w .d)
+abbrev pub below : ℤ → ℤ → ℤ → ℤ → ℤ → ℤ → ℤ → Bool
+below a b c d x y z = leZ (a *ℤ x +ℤ b *ℤ y +ℤ c *ℤ z) d
 
 abbrev pub square : ℤ → ℤ
 square v = v *ℤ v
 
 -- ry²(x-cx)² + rx²(y-cy)² <= rx²ry²
-abbrev pub inEllipse : DrumShape → Point → Bool
-inEllipse d p =
-    leZ
-    (square (d .ry) *ℤ square (p .x -ℤ d .cx) +ℤ square (d .rx) *ℤ square (p .y -ℤ d .cy))
-    (square (d .rx) *ℤ square (d .ry))
+abbrev pub inEllipse : ℤ → ℤ → ℤ → ℤ → ℤ → ℤ → Bool
+inEllipse cx cy rx ry x y = leZ (square ry *ℤ square (x -ℤ cx) +ℤ square rx *ℤ square (y -ℤ cy)) (square rx *ℤ square ry)
+
+abbrev pub insideWedge : WedgeShape → Point → Bool
+insideWedge w p = holds (bounds (w .bounds)) p && below (w .a) (w .b) (w .c) (w .d) (p .x) (p .y) (p .z)
+
+abbrev pub insideDrum : DrumShape → Point → Bool
+insideDrum d p =
+    within (record { lo = d .zlo; hi = d .zhi }) (p .z) && inEllipse (d .cx) (d .cy) (d .rx) (d .ry) (p .x) (p .y)
 
 abbrev pub insideSolid : Primitive → Point → Bool
 insideSolid (primitive.Box b) p = holds (bounds b) p
-insideSolid (primitive.Wedge w) p = holds (bounds (w .bounds)) p && underPlane w p
-insideSolid (primitive.Drum d) p = within (record { lo = d .zlo; hi = d .zhi }) (p .z) && inEllipse d p
+insideSolid (primitive.Wedge w) p = insideWedge w p
+insideSolid (primitive.Drum d) p = insideDrum d p
 
 unfoldable pub inside : Tree → Point → Bool
 inside (solid number s) p = insideSolid s p

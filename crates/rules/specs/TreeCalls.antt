@@ -22,14 +22,12 @@ use Rattle.rules.specs.Frame.{frameRefusal, firstInside, insideCount}
 use Rattle.rules.specs.Refusals.{refuseUnless}
 use Rattle.rules.specs.Told.{Tale, sound, inside as is-inside, outside, clear, hit, tell, toldChecked, toldLocated, toldSearched}
 
--- the first axis on which a point is out of a box (10)
+-- the first axis on which a point is out, from whether it is in on each (10)
+abbrev pub axisRefusal : Bool → Bool → Bool → Option Refusal
+axisRefusal x y z = firstOf (refuseUnless x 10 0 ∷ refuseUnless y 10 1 ∷ refuseUnless z 10 2 ∷ [])
+
 abbrev pub pointRefusal : Box → Point → Option Refusal
-pointRefusal box p =
-    firstOf
-    (refuseUnless (within (box .x) (p .x)) 10 0
-    ∷ refuseUnless (within (box .y) (p .y)) 10 1
-    ∷ refuseUnless (within (box .z) (p .z)) 10 2
-    ∷ [])
+pointRefusal box p = axisRefusal (within (box .x) (p .x)) (within (box .y) (p .y)) (within (box .z) (p .z))
 
 abbrev pub pointTale : Bool → Tale
 pointTale b = if b then is-inside else outside

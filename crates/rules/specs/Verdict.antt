@@ -2,12 +2,12 @@
 -- the children (4); then that every row but the last is a child exactly once (5).
 use Prim.Native.Nat.{ℕ, _-_, _*_, _%_}
 use mathlib.Core.Bool.{Bool, not, _&&_, _||_}
-use mathlib.Core.List.{List, [], _∷_, map, flatMap}
+use mathlib.Core.List.{List, [], _∷_, flatMap}
 use mathlib.Core.Option.{Option, none, some}
 use lib.Dec.{eqb, ltb}
 use lib.IntN.{ℤ}
 use lib.ListN.{length}
-use Rattle.ground.specs.Lists.{below, countIf, firstOf}
+use Rattle.ground.specs.Lists.{below, countIf, firstOf, rulings}
 use Rattle.rules.specs.declared.Kind.{Kind}
 use Rattle.rules.specs.declared.Refusal.{Refusal}
 use Rattle.rules.specs.declared.Row.{Row}
@@ -27,7 +27,7 @@ abbrev pub rowRefusal : List ℤ → ℕ → Option Refusal
 rowRefusal t row = rowRefusalBy (kindAt t row) (wordAt t row) row
 
 abbrev pub rowsRefusal : List ℤ → Option Refusal
-rowsRefusal t = firstOf (map (rowRefusal t) (below (rowCount t)))
+rowsRefusal t = rulings (rowRefusal t) 0 (rowCount t)
 
 -- the children that the rows of a table name, one for each word that names one
 abbrev pub childrenOf : Option Row → List ℕ
@@ -44,7 +44,7 @@ abbrev pub childOnce : List ℤ → ℕ → Bool
 childOnce t row = eqb (countIf (eqb row) (children t)) 1
 
 abbrev pub childRefusal : List ℤ → Option Refusal
-childRefusal t = firstOf (map (λ row. refuseUnless (childOnce t row) 5 row) (below (rowCount t - 1)))
+childRefusal t = rulings (λ row. refuseUnless (childOnce t row) 5 row) 0 (rowCount t - 1)
 
 unfoldable pub tableRefusal : List ℤ → Option Refusal
 tableRefusal t = firstOf (lengthRefusal t ∷ rowsRefusal t ∷ childRefusal t ∷ [])

@@ -1,4 +1,21 @@
-// The types that the rules speak of. What they mean stands in specs/; there is no function here.
+// The types that the rules speak of, and their limits. What they mean stands in specs/; there is no function here.
+
+// The range of each axis.
+pub const LEAST_COLUMN: i32 = -32768;
+
+pub const GREATEST_COLUMN: i32 = 32767;
+
+pub const LEAST_CODE: i32 = -32768;
+
+pub const GREATEST_CODE: i32 = 32767;
+
+pub const LEAST_FRAME: i32 = -32768;
+
+pub const GREATEST_FRAME: i32 = 32767;
+
+pub const ROW_WORDS: usize = 12;
+
+pub const MOST_ROWS: usize = 127;
 
 // Sample column, ADC code, frame number.
 pub struct Point {

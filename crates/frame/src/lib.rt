@@ -1,0 +1,141 @@
+// Where points and samples stand: the checks of a point and of a frame, the point of a sample, and the tally of a search.
+use rules::Checked;
+use rules::Place;
+use rules::Point;
+use rules::Searched;
+use rules::Window;
+ghost use Prim.Native.Nat.{_≤_, _<_};
+ghost use mathlib.Core.Bool.{true};
+ghost use mathlib.Core.Option.{none};
+ghost use mathlib.Core.Path.{_≡_};
+ghost use lib.ListN.{length};
+ghost use Rattle.rules.specs.Ranges.{within, frames};
+ghost use Rattle.rules.specs.Boxes.{holds, everywhere, windowBox};
+ghost use Rattle.rules.specs.Frame.{codeAt, pointOf, frameRefusal};
+ghost use Rattle.rules.specs.Told.{fine, toldSearched};
+ghost use Rattle.rules.specs.TreeCalls.{axisRefusal, pointRefusal, searchTale};
+ghost use Rattle.laws.specs.Answers.{checkedBy};
+ghost use Rattle.frame.specs.Tallies.{columnsRight, seen, stepped};
+
+// The first inside sample so far, and how many there are.
+pub struct Tally {
+    pub first: usize,
+    pub count: usize,
+}
+
+// The range of all points.
+pub fn everywhere() -> Window
+    ensures { λ r. ⌜ windowBox r ≡ everywhere ⌝ }
+{
+    Window {
+        xlo: rules::LEAST_COLUMN,
+        xhi: rules::GREATEST_COLUMN,
+        ylo: rules::LEAST_CODE,
+        yhi: rules::GREATEST_CODE,
+        zlo: rules::LEAST_FRAME,
+        zhi: rules::GREATEST_FRAME,
+    }
+}
+
+// The first axis on which a point is out, from whether it is in on each.
+fn first_out(x: bool, y: bool, z: bool) -> Checked
+    ensures { λ r. ⌜ r ≡ checkedBy (axisRefusal x y z) ⌝ }
+{
+    if !x {
+        return table::refused(10, 0);
+    }
+    if !y {
+        return table::refused(10, 1);
+    }
+    if !z {
+        return table::refused(10, 2);
+    }
+    Checked::Sound
+}
+
+pub fn check_point(w: Window, p: Point) -> Checked
+    ensures { λ r. ⌜ r ≡ checkedBy (pointRefusal (windowBox w) p) ⌝ }
+{
+    first_out(
+        (w.xlo <= p.x) & (p.x <= w.xhi),
+        (w.ylo <= p.y) & (p.y <= w.yhi),
+        (w.zlo <= p.z) & (p.z <= w.zhi),
+    )
+}
+
+// Every column from `first` on is in range.
+fn columns_right(first: i32, samples: usize) -> bool
+    requires { ⌜ (1 ≤ samples) × (samples ≤ 65536) ⌝ }
+    ensures { λ r. ⌜ r ≡ columnsRight first samples ⌝ }
+{
+    let last = (first as i64) + ((samples - 1) as i64);
+    ((rules::LEAST_COLUMN <= first) & (first <= rules::GREATEST_COLUMN))
+        & (last <= (rules::GREATEST_COLUMN as i64))
+}
+
+fn frame_right(frame: i32) -> bool
+    ensures { λ r. ⌜ r ≡ within frames frame ⌝ }
+{
+    (rules::LEAST_FRAME <= frame) & (frame <= rules::GREATEST_FRAME)
+}
+
+pub fn check_frame(samples: &[i16], place: Place) -> Checked
+    ensures { λ r. ⌜ r ≡ checkedBy (frameRefusal (now (samples .entry)) place) ⌝ }
+{
+    let n = samples.len();
+    if (n == 0) | (65536 < n) {
+        return table::refused(12, 0);
+    }
+    if !columns_right(place.first, n) {
+        return table::refused(12, 1);
+    }
+    if !frame_right(place.frame) {
+        return table::refused(12, 2);
+    }
+    Checked::Sound
+}
+
+// The point of sample k.
+pub fn point_at(samples: &[i16], place: Place, k: usize) -> Point
+    requires { ⌜ k < length (now samples) ⌝ }
+    requires { ⌜ frameRefusal (now samples) place ≡ none ⌝ }
+    ensures { λ r. ⌜ r ≡ pointOf place k (codeAt (now (samples .entry)) k) ⌝ }
+    ensures ranged { λ r. ⌜ holds everywhere r ≡ true ⌝ }
+{
+    let y = samples[k] as i32;
+    let x = place.first + (k as i32);
+    Point {
+        x,
+        y,
+        z: place.frame,
+    }
+}
+
+// The tally with sample k.
+pub fn counted(t: Tally, k: usize, hit: bool) -> Tally
+    requires { ⌜ t .count ≤ 65536 ⌝ }
+    ensures { λ r. ⌜ r ≡ stepped t k hit ⌝ }
+{
+    if !hit {
+        return t;
+    }
+    if t.count == 0 {
+        return Tally { first: k, count: 1 };
+    }
+    Tally {
+        first: t.first,
+        count: t.count + 1,
+    }
+}
+
+pub fn answer(t: Tally) -> Searched
+    ensures { λ r. ⌜ toldSearched r ≡ fine (searchTale (seen t) (t .count)) ⌝ }
+{
+    if t.count == 0 {
+        return Searched::Clear;
+    }
+    Searched::Hit {
+        first: t.first,
+        count: t.count,
+    }
+}

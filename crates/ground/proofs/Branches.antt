@@ -1,0 +1,29 @@
+-- What a branch tells of `p && q` and `p || q`, and of a choice. Assumes nothing.
+use mathlib.Core.Bool.{Bool, true, false, _&&_, _||_}
+use mathlib.Core.Path.{_≡_, refl, sym, subst}
+use lib.Dec.{T}
+
+pub false-true {ℓ} : {A : Type ℓ} → false ≡ true → A
+false-true e = absurd (subst T (sym e) tt)
+
+module _ (p q : Bool) where
+  pub and-yes : p ≡ true → q ≡ (p && q)
+  and-yes h = rw h
+
+  pub and-no : p ≡ false → false ≡ (p && q)
+  and-no h = rw h
+
+  pub or-yes : p ≡ true → true ≡ (p || q)
+  or-yes h = rw h
+
+  pub or-no : p ≡ false → q ≡ (p || q)
+  or-no h = rw h
+
+-- both parts of `p && q`
+pub and-left : (p q : Bool) → (p && q) ≡ true → p ≡ true
+and-left true q h = refl
+and-left false q h = h
+
+pub and-right : (p q : Bool) → (p && q) ≡ true → q ≡ true
+and-right true q h = h
+and-right false q h = false-true h

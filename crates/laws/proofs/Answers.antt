@@ -1,0 +1,57 @@
+-- What an answer tells of the rule behind it. Assumes nothing.
+use mathlib.Core.Bool.{true}
+use mathlib.Core.List.{List, [], _∷_}
+use mathlib.Core.Option.{Option, none, some}
+use mathlib.Core.Path.{_≡_, refl, ap}
+use Rattle.ground.specs.Lists.{firstOf}
+use Rattle.ground.proofs.Counting.{first-kept}
+use Rattle.rules.specs.declared.Checked.the-variants as checked
+use Rattle.rules.specs.declared.Point.{Point}
+use Rattle.rules.specs.declared.Refusal.{Refusal}
+use Rattle.rules.specs.Ranges.{within}
+use Rattle.rules.specs.Boxes.{Box, holds}
+use Rattle.rules.specs.Refusals.{refuseUnless}
+use Rattle.rules.specs.Told.{Tale, Told, sound, fine, refused, tell, toldChecked}
+use Rattle.rules.specs.TreeCalls.{pointRefusal}
+use Rattle.laws.specs.Answers.{checkedBy}
+use Rattle.laws.proofs.Soundness.{unless-kept}
+
+-- what a check that went on, or stopped, found
+pub went-on : (x : Option Refusal) → checked.Sound ≡ checkedBy x → x ≡ none
+went-on none e = refl
+went-on (some r) e = cc
+
+pub stopped : (x : Option Refusal) {r : Refusal} → checked.Refused r ≡ checkedBy x → x ≡ some r
+stopped none e = cc
+stopped (some q) {r} e = let s : q ≡ r = cc in ap some s
+
+-- an answer of the check tells what the rules say
+pub checked-told : (x : Option Refusal) → toldChecked (checkedBy x) ≡ tell x sound
+checked-told none = refl
+checked-told (some r) = refl
+
+-- ---- an answer by the first rule that is broken
+
+module _ (x : Option Refusal) (xs : List (Option Refusal)) (tale : Tale) where
+  pub told-now : {r : Refusal} → x ≡ some r → refused r ≡ tell (firstOf (x ∷ xs)) tale
+  unfolding firstOf
+  told-now h = rw h
+
+  pub told-later : {told : Told} → x ≡ none → told ≡ tell (firstOf xs) tale → told ≡ tell (firstOf (x ∷ xs)) tale
+  unfolding firstOf
+  told-later h e = rw h e
+
+pub told-fine : (tale : Tale) → fine tale ≡ tell (firstOf []) tale
+unfolding firstOf
+told-fine tale = refl
+
+-- a point that is in on each axis
+pub point-holds : (b : Box) (p : Point) → pointRefusal b p ≡ none → holds b p ≡ true
+point-holds b p e =
+    let x = within (b .x) (p .x) in
+    let y = within (b .y) (p .y) in
+    let z = within (b .z) (p .z) in
+    let one = first-kept (refuseUnless x 10 0) (refuseUnless y 10 1 ∷ refuseUnless z 10 2 ∷ []) e in
+    let two = first-kept (refuseUnless y 10 1) (refuseUnless z 10 2 ∷ []) (one .1) in
+    let three = first-kept (refuseUnless z 10 2) [] (two .1) in
+    rw (unless-kept x 10 0 (one .0), unless-kept y 10 1 (two .0), unless-kept z 10 2 (three .0))

@@ -1,0 +1,7 @@
+pub mod Numbering
+pub mod Soundness
+pub mod Spans
+pub mod Ranges
+pub mod Trees
+pub mod Answers
+pub mod Columns

@@ -1,0 +1,63 @@
+use mathlib.Core.Option.{none}
+use mathlib.Core.Path.{_≡_, sym, ap, _∙_}
+use borrow.Author.Needs.{needs}
+use Rattle.rules.specs.Boxes.{Box, everywhere}
+use Rattle.rules.specs.TreeCalls.{pointRefusal}
+use Rattle.laws.proofs.Answers.{went-on, stopped, point-holds}
+use Rattle.laws.proofs.Soundness.{table-sound}
+use Rattle.laws.specs.Answers.{checkedBy}
+use Rattle.tree.proofs.Calls.{point-out, point-inside, point-outside}
+use Rattle.tree.proofs.sound_point.Statement.{statement}
+use Rattle.tree.proofs.sound_point.Tie as tie
+
+-- what the check of the point came to
+placed : (c : tie.After-check-point) → c .check-point .result ≡ checkedBy (pointRefusal everywhere (c .before .before .args .p))
+placed c = c .check-point .ensures ∙ ap (λ (b : Box). checkedBy (pointRefusal b (c .before .before .args .p))) (c .before .everywhere .ensures)
+
+in-range : (c : tie.After-enum-told) → pointRefusal everywhere (c .before .before .before .before .args .p) ≡ none
+in-range c = went-on (pointRefusal everywhere (c .before .before .before .before .args .p)) (sym (c .enum-told .given .1) ∙ placed (c .before .before))
+
+everywhere-requires : tie.Need-everywhere-requires
+everywhere-requires c κs = search needs
+
+check-point-requires : tie.Need-check-point-requires
+check-point-requires c κs = search needs
+
+enum-known-placed : tie.Need-enum-known-placed
+enum-known-placed c = search needs
+
+enum-told : tie.Need-enum-told
+enum-told c = search needs
+
+zone-inside-requires : tie.Need-zone-inside-requires
+zone-inside-requires c κs = let s = c .before .before .before .before in (table-sound (s .args .table .now) (s .pre), point-holds everywhere (s .args .p) (in-range c))
+
+returns : tie.Need-returns
+returns c =
+    let s = c .before .before .before .before .before in
+    point-out (s .args .table .now) (s .args .p) (s .pre) (stopped (pointRefusal everywhere (s .args .p)) (sym (c .before .placed .given .1) ∙ placed (c .before .before .before)))
+
+returns-2 : tie.Need-returns-2
+returns-2 c =
+    let d = c .before .before in
+    let s = d .before .before .before .before in
+    point-inside (s .args .table .now) (s .args .p) (s .pre) (in-range d) (sym (c .before .zone-inside .ensures) ∙ c .if1 .taken)
+
+returns-3 : tie.Need-returns-3
+returns-3 c =
+    let d = c .before .before in
+    let s = d .before .before .before .before in
+    point-outside (s .args .table .now) (s .args .p) (s .pre) (in-range d) (sym (c .before .zone-inside .ensures) ∙ c .if1 .left)
+
+pub sound-point-spec : {M : Type 1} → statement M
+sound-point-spec =
+    tie.close
+    (tie.spec
+    everywhere-requires
+    check-point-requires
+    enum-known-placed
+    enum-told
+    zone-inside-requires
+    returns
+    returns-2
+    returns-3)

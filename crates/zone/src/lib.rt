@@ -1,0 +1,28 @@
+// The public calls. Each takes every input and ends; what it answers, and what it leaves in a lent buffer, is fixed by its record.
+use rules::Checked;
+use rules::Located;
+use rules::Place;
+use rules::Point;
+use rules::Searched;
+ghost use Rattle.rules.specs.TreeCalls.{TableChecked, TreeLocated, TreeSearched};
+
+// Whether a table is sound, or the first rule that it breaks (1 to 5).
+pub fn check_table(table: &[i32]) -> Checked
+    ensures { λ r. ⌜ TableChecked (now (table .entry)) r ⌝ }
+{
+    table::check_table(table)
+}
+
+// Whether a point is inside the zone, by its tree. Refusals: the table's; 10 for a point out of range.
+pub fn tree_point(table: &[i32], point: Point) -> Located
+    ensures { λ r. ⌜ TreeLocated (now (table .entry)) point r ⌝ }
+{
+    tree::tree_point(table, point)
+}
+
+// The first inside sample of a frame and how many there are, by the tree. Refusals: the table's; 12 for the frame.
+pub fn tree_search(table: &[i32], samples: &[i16], place: Place) -> Searched
+    ensures { λ r. ⌜ TreeSearched (now (table .entry)) (now (samples .entry)) place r ⌝ }
+{
+    tree::tree_search(table, samples, place)
+}
