@@ -308,11 +308,12 @@ fn check_row(table: &[i32], row: usize) -> Checked
 }
 
 fn check_rows(table: &[i32], rows: usize) -> Checked
-    requires { ⌜ (length (now table) ≡ rows * 12) × (rows ≤ 127) ⌝ }
+    requires { ⌜ (length (now table) ≡ rows * 12) × ((1 ≤ rows) × (rows ≤ 127)) ⌝ }
     ensures { λ r. ⌜ r ≡ checkedBy (rulings (rowRefusal (now (table .entry))) 0 rows) ⌝ }
 {
+    let last = rows - 1;
     let mut row: usize = 0;
-    while row < rows {
+    while row <= last {
         let checked = check_row(table, row);
         match checked {
             Checked::Refused(refusal) => {

@@ -45,13 +45,14 @@ in-ellipse-requires c κs =
     let s = c .before .before .before .before .before .before .before .before .before .before .before .before .before .before .before in
     let d = s .args .d in
     let p = s .args .p in
-    let f = fits s in (
-      (reread w32 (within columns) (f .cx) (cx-in d (s .pre .0)), reread w32 (within codes) (f .cy) (cy-in d (s .pre .0))),
-      (
-        (reread w32 (within radii) (f .rx) (rx-in d (s .pre .0)), reread w32 (within radii) (f .ry) (ry-in d (s .pre .0))),
-        (reread w32 (within columns) (f .x) (x-in p (s .pre .1)), reread w32 (within codes) (f .y) (y-in p (s .pre .1))),
-      ),
-    )
+    let f = fits s in
+    let cx = reread w32 (within columns) (f .cx) (cx-in d (s .pre .0)) in
+    let cy = reread w32 (within codes) (f .cy) (cy-in d (s .pre .0)) in
+    let rx = reread w32 (within radii) (f .rx) (rx-in d (s .pre .0)) in
+    let ry = reread w32 (within radii) (f .ry) (ry-in d (s .pre .0)) in
+    let x = reread w32 (within columns) (f .x) (x-in p (s .pre .1)) in
+    let y = reread w32 (within codes) (f .y) (y-in p (s .pre .1)) in
+    search
 
 returns-2 : tie.Need-returns-2
 returns-2 c =

@@ -23,7 +23,7 @@ returns : tie.Need-returns
 returns c = c .refused .ensures ∙ ap checkedBy (sym (length-wrong (c .before .before .args .table .now) (c .before .if1 .taken)))
 
 check-rows-requires : tie.Need-check-rows-requires
-check-rows-requires c κs = let w = whole-table (c .before .args .table .now) (whole c) in (w .whole, w .not-over)
+check-rows-requires c κs = let w = whole-table (c .before .args .table .now) (whole c) in (w .whole, (w .some-row, w .not-over))
 
 enum-known-checked : tie.Need-enum-known-checked
 enum-known-checked c = search needs

@@ -30,7 +30,7 @@ loop-holds : tie.Need-loop-holds Inv-loop μ-loop
 loop-holds c = (omega arith, begins (test (c .args .table .now) (c .args .samples .now) (c .args .place)) (length (c .args .samples .now)))
 
 point-at-requires : tie.Need-point-at-requires Inv-loop μ-loop
-point-at-requires c κs = (c .loop-test .taken, c .before .before .pre .1)
+point-at-requires c κs = (omega arith, c .before .before .pre .1)
 
 zone-inside-requires : tie.Need-zone-inside-requires Inv-loop μ-loop
 zone-inside-requires c κs = (c .before .before .before .pre .0, c .point-at .ensures .1)
