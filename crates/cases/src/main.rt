@@ -269,6 +269,10 @@ fn range_points() {
     point(b"range, highest corner", &t, 32767, 32767, 32767);
     point(b"range, column 32768", &t, 32768, 0, 0);
     point(b"range, column -32769", &t, -32769, 0, 0);
+}
+
+fn range_axes() {
+    let t = whole_range();
     point(b"range, code -32769", &t, 0, -32769, 0);
     point(b"range, frame 32768", &t, 0, 0, 32768);
     point(b"range, code and frame", &t, 0, 40000, -40000);
@@ -299,6 +303,9 @@ fn drums() {
     point(b"radius 1, (1,0)", &one, 1, 0, 0);
     point(b"radius 1, (0,-1)", &one, 0, -1, 0);
     point(b"radius 1, (1,1)", &one, 1, 1, 0);
+}
+
+fn large_drums() {
     let large: [i32; 12] = [2, -28672, 28671, 4096, 4096, -32768, 32767, 0, 0, 0, 0, 0];
     point(b"radius 4096, lowest column", &large, -32768, 28671, -32768);
     point(b"radius 4096, beside it", &large, -32768, 28670, 0);
@@ -317,6 +324,9 @@ fn drums() {
         0,
     );
     point(b"radius 4096, far away", &large, 32767, -32768, 0);
+}
+
+fn flat_drums() {
     let flat: [i32; 12] = [2, 0, 0, 4096, 1, 0, 0, 0, 0, 0, 0, 0];
     point(b"radii 4096 and 1, (4096,0)", &flat, 4096, 0, 0);
     point(b"radii 4096 and 1, (4095,1)", &flat, 4095, 1, 0);
@@ -328,6 +338,9 @@ fn wedges() {
     point(b"wedge, 1 below its plane", &t, -10, -4, -13);
     point(b"wedge, on its plane", &t, -12, -4, -12);
     point(b"wedge, 1 above its plane", &t, -7, -4, -14);
+}
+
+fn far_wedges() {
     let most: [i32; 12] = [
         1,
         -32768,
@@ -435,10 +448,16 @@ fn fields() {
     check(b"3, hi below lo", &below);
     let far: [i32; 12] = [0, 0, 32768, 0, 0, 0, 0, 0, 0, 0, 0, 0];
     check(b"3, column out of range", &far);
+}
+
+fn slopes() {
     let level: [i32; 12] = [1, 0, 9, 0, 9, 0, 0, 0, 0, 0, 5, 0];
     check(b"3, slopes all 0", &level);
     let steep: [i32; 12] = [1, 0, 9, 0, 9, 0, 0, 0, 0, 32768, 5, 0];
     check(b"3, slope out of range", &steep);
+}
+
+fn radii() {
     let thin: [i32; 12] = [2, 0, 0, 0, 3, 0, 0, 0, 0, 0, 0, 0];
     check(b"3, radius 0", &thin);
     let wide: [i32; 12] = [2, 0, 0, 3, 4097, 0, 0, 0, 0, 0, 0, 0];
@@ -504,6 +523,9 @@ fn children() {
         0,
     ];
     check(b"3 before 4 in one row", &spare);
+}
+
+fn parents() {
     let twice: [i32; 24] = [
         0,
         0,
@@ -596,12 +618,19 @@ fn main() {
     case_14();
     case_15();
     range_points();
+    range_axes();
     range_frames();
     other_frames();
     drums();
+    large_drums();
+    flat_drums();
     wedges();
+    far_wedges();
     lengths();
     kinds();
     fields();
+    slopes();
+    radii();
     children();
+    parents();
 }

@@ -1,9 +1,10 @@
 -- What an answer tells of the rule behind it. Assumes nothing.
-use mathlib.Core.Bool.{true}
+use mathlib.Core.Bool.{true, _&&_}
 use mathlib.Core.List.{List, [], _∷_}
 use mathlib.Core.Option.{Option, none, some}
 use mathlib.Core.Path.{_≡_, refl, ap}
 use Rattle.ground.specs.Lists.{firstOf}
+use Rattle.ground.proofs.Branches.{and-left, and-right}
 use Rattle.ground.proofs.Counting.{first-kept}
 use Rattle.rules.specs.declared.Checked.the-variants as checked
 use Rattle.rules.specs.declared.Point.{Point}
@@ -55,3 +56,12 @@ point-holds b p e =
     let two = first-kept (refuseUnless y 10 1) (refuseUnless z 10 2 ∷ []) (one .1) in
     let three = first-kept (refuseUnless z 10 2) [] (two .1) in
     rw (unless-kept x 10 0 (one .0), unless-kept y 10 1 (two .0), unless-kept z 10 2 (three .0))
+
+-- and a point that a box holds is in on each axis
+pub holds-point : (b : Box) (p : Point) → holds b p ≡ true → pointRefusal b p ≡ none
+unfolding firstOf
+holds-point b p h =
+    let x = within (b .x) (p .x) in
+    let y = within (b .y) (p .y) in
+    let z = within (b .z) (p .z) in
+    rw (and-left x (y && z) h, and-left y z (and-right x (y && z) h), and-right y z (and-right x (y && z) h))

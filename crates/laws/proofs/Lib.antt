@@ -5,3 +5,4 @@ pub mod Ranges
 pub mod Trees
 pub mod Answers
 pub mod Columns
+pub mod Sets

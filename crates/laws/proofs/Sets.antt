@@ -1,0 +1,67 @@
+-- At every integer point in range the tree's answer is that of the set operations. Assumes nothing.
+use mathlib.Core.Bool.{Bool, true, false, not, _&&_, _||_}
+use mathlib.Core.List.{List, [], _∷_}
+use mathlib.Core.Logic.{_⊎_, inl, inr, ⊎-elim}
+use mathlib.Core.Option.{none}
+use mathlib.Core.Path.{_≡_, refl, sym, _∙_}
+use lib.IntN.{ℤ}
+use Rattle.ground.proofs.Branches.{false-true}
+use Rattle.rules.specs.declared.Located.{Located}
+use Rattle.rules.specs.declared.Located.the-variants.{Inside, Outside}
+use Rattle.rules.specs.declared.Point.{Point}
+use Rattle.rules.specs.Boxes.{holds, everywhere}
+use Rattle.rules.specs.Verdict.{tableRefusal}
+use Rattle.rules.specs.Tree.{Tree, solid, union, inter, diff, treeOf}
+use Rattle.rules.specs.Inside.{insideSolid, inside}
+use Rattle.rules.specs.Told.{fine, toldLocated}
+use Rattle.rules.specs.TreeCalls.{pointRefusal, pointTale, TreeLocated}
+use Rattle.rules.proofs.Told.{located-once}
+use Rattle.laws.specs.Sets.{InSet}
+use Rattle.laws.proofs.Answers.{told-later, told-fine, holds-point}
+
+-- a test that says whether something holds
+abbrev Says : Bool → Type 0 → Type 0
+Says true X = X
+Says false X = X → ⊥
+
+says-or : (a b : Bool) (X Y : Type 0) → Says a X → Says b Y → Says (a || b) (X ⊎ Y)
+says-or true b X Y x y = inl x
+says-or false true X Y x y = inr y
+says-or false false X Y x y = ⊎-elim x y
+
+says-and : (a b : Bool) (X Y : Type 0) → Says a X → Says b Y → Says (a && b) (X × Y)
+says-and true true X Y x y = (x, y)
+says-and true false X Y x y = λ k. y (k .1)
+says-and false b X Y x y = λ k. x (k .0)
+
+says-not : (b : Bool) (Y : Type 0) → Says b Y → Says (not b) (Y → ⊥)
+says-not true Y y = λ k. k y
+says-not false Y y = y
+
+says-itself : (b : Bool) → Says b (b ≡ true)
+says-itself true = refl
+says-itself false = λ e. false-true e
+
+-- the definition by tests is the definition by sets
+pub tests-are-sets : (tree : Tree) (p : Point) → Says (inside tree p) (InSet tree p)
+unfolding inside InSet
+tests-are-sets (solid n s) p = says-itself (insideSolid s p)
+tests-are-sets (union l r) p = says-or (inside l p) (inside r p) (InSet l p) (InSet r p) (tests-are-sets l p) (tests-are-sets r p)
+tests-are-sets (inter l r) p = says-and (inside l p) (inside r p) (InSet l p) (InSet r p) (tests-are-sets l p) (tests-are-sets r p)
+tests-are-sets (diff l r) p =
+    says-and (inside l p) (not (inside r p)) (InSet l p) (InSet r p → ⊥) (tests-are-sets l p) (says-not (inside r p) (InSet r p) (tests-are-sets r p))
+
+-- whoever meets the record of a point in the tree answers by the set, at every point in range
+module _ (t : List ℤ) (sound : tableRefusal t ≡ none) (p : Point) (ranged : holds everywhere p ≡ true) {r : Located} (met : TreeLocated t p r) where
+  told : toldLocated r ≡ fine (pointTale (inside (treeOf t) p))
+  told =
+      let tale = pointTale (inside (treeOf t) p) in
+      met .answer
+      ∙ sym (told-later (tableRefusal t) (pointRefusal everywhere p ∷ []) tale sound (told-later (pointRefusal everywhere p) [] tale (holds-point everywhere p ranged) (told-fine tale)))
+
+  go : (b : Bool) → Says b (InSet (treeOf t) p) → toldLocated r ≡ fine (pointTale b) → (InSet (treeOf t) p → r ≡ Inside) × ((InSet (treeOf t) p → ⊥) → r ≡ Outside)
+  go true says e = ((λ k. located-once r Inside e), (λ k. absurd (k says)))
+  go false says e = ((λ k. absurd (says k)), (λ k. located-once r Outside e))
+
+  pub tree-answers-sets : (InSet (treeOf t) p → r ≡ Inside) × ((InSet (treeOf t) p → ⊥) → r ≡ Outside)
+  tree-answers-sets = go (inside (treeOf t) p) (tests-are-sets (treeOf t) p) told
