@@ -5,3 +5,4 @@ pub mod Branches
 pub mod Num
 pub mod Counting
 pub mod Order
+pub mod Masks

@@ -6,3 +6,14 @@ pub mod Trees
 pub mod Answers
 pub mod Columns
 pub mod Sets
+pub mod Apart
+pub mod Expansion
+pub mod Spaces
+pub mod Reach
+pub mod Ways
+pub mod Blanks
+pub mod Repeats
+pub mod Kept
+pub mod Firsts
+pub mod Listing
+pub mod Origins
