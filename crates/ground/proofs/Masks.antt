@@ -1,19 +1,18 @@
 -- A number as a set of places: two numbers with the same places are equal, and so the algebra of bitAnd and bitOr follows from that of tests.
 -- Assumes nothing.
-use Prim.Native.Nat.{ℕ, zero, suc, _+_, _*_, _/_, _%_, _^_, _<_, min, max}
-use native.Mathlib.Nat.{mod-lt, zero-lt-suc, pow-suc, mul-div-cancel, mul-mod-left, div-one}
+use Prim.Native.Nat.{ℕ, zero, suc, _*_, _/_, _%_, _^_, _<_, min, max}
+use native.Mathlib.Nat.{mod-lt, one-mul, zero-lt-suc, pow-suc, mul-div-cancel, mul-mod-left, div-one}
 use native.Mathlib.Numerals.{one-add}
 use native.Mathlib.Omega.{arith}
 use mathlib.Core.Bool as bool
 use mathlib.Core.Bool.{Bool, true, false, _&&_, _||_, or-true, or-false, and-false, and-or-distrib-left}
 use mathlib.Core.Logic.{_⊎_, inl, inr}
 use mathlib.Core.Path.{_≡_, refl, sym, ap, ap₂, _∙_}
-use borrow.Author.Tests.{eqb-true, eq-eqb}
 use lib.Arith.{bin-ind, digits-mod}
 use lib.Bits as bits
 use lib.Bits.{bitAnd, bitOr, and-step, or-step, and-shr, or-shr}
 use lib.Dec.{eqb, eqb·zero-suc, eqb·suc-zero, eqb·suc-suc}
-use lib.Pow.{shr-shr}
+use lib.Pow.{shr-shr, shl-exact}
 use Rattle.ground.specs.Bits.{odd}
 use Rattle.ground.proofs.Branches.{false-true, and-left, and-right}
 
@@ -179,3 +178,7 @@ module _ (u v p a b : ℕ) (hu : Within u a) (hv : Within v b) (apart : bitAnd a
 module _ (u v p a b : ℕ) (hu : Within u a) (hv : Within v b) (apart : bitAnd a b ≡ 0) where
   pub part-right : bitAnd p (bitOr a b) ≡ bitOr u v → bitAnd p b ≡ v
   part-right e = part-left v u p b a hv hu (bits.and-comm b a ∙ apart) (ap (bitAnd p) (bits.or-comm b a) ∙ e ∙ bits.or-comm u v)
+
+-- as code makes the set of one place
+pub one-shifted : (i : ℕ) → i < 64 → (1 * 2 ^ i) % 2 ^ 64 ≡ 2 ^ i
+one-shifted i l = shl-exact {a = 1} 1 i 64 (omega arith) (omega arith) ∙ one-mul (2 ^ i)

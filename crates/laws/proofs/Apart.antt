@@ -168,7 +168,7 @@ module _ (t : List ℤ) (S : Sound t) where
   abbrev times : ℕ → ℕ → ℕ
   times i row = countIf (eqb i) (named row)
 
-  next-before : (row : ℕ) → before (suc row) ≡ before row + length (solidOf (rowAt t row))
+  pub next-before : (row : ℕ) → before (suc row) ≡ before row + length (solidOf (rowAt t row))
   next-before row = ap length (next-row (λ r. solidOf (rowAt t r)) row) ∙ length-append (primitivesBefore t row) (solidOf (rowAt t row))
 
   next-named : (row : ℕ) → length (named (suc row)) ≡ length (named row) + length (childrenOf (rowAt t row))

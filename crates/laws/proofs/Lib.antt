@@ -17,3 +17,6 @@ pub mod Kept
 pub mod Firsts
 pub mod Listing
 pub mod Origins
+pub mod Words
+pub mod Listed
+pub mod Promise

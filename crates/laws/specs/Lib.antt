@@ -4,3 +4,4 @@ pub mod Sets
 pub mod Plans
 pub mod Listing
 pub mod Reach
+pub mod Listed

@@ -4,6 +4,9 @@ use rules::Located;
 use rules::Place;
 use rules::Point;
 use rules::Searched;
+use rules::Window;
+use rules::Written;
+ghost use Rattle.rules.specs.ListCalls.{ListMade};
 ghost use Rattle.rules.specs.TreeCalls.{TableChecked, TreeLocated, TreeSearched};
 
 // Whether a table is sound, or the first rule that it breaks (1 to 5).
@@ -25,4 +28,12 @@ pub fn tree_search(table: &[i32], samples: &[i16], place: Place) -> Searched
     ensures { λ r. ⌜ TreeSearched (now (table .entry)) (now (samples .entry)) place r ⌝ }
 {
     tree::tree_search(table, samples, place)
+}
+
+// Writes the zone's list for a window and says how many words it took; the words beyond stay. Refusals: the table's; 6 for the window;
+// 7 with the ways of choosing, where these are over 65,536; 8 with the words needed. A zone that misses the window has a list of 0 products.
+pub fn make_list(table: &[i32], window: Window, list: &mut [u64]) -> Written
+    ensures { λ r. ⌜ ListMade (now (table .entry)) window (now (list .entry)) (now (list .exit)) r ⌝ }
+{
+    list::make_list(table, window, list)
 }

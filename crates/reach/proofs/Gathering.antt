@@ -1,0 +1,101 @@
+-- Sets of primitives that are gathered row by row come to the sets of all of them. Assumes nothing.
+use Prim.Native.Nat.{ℕ, suc, _+_, _/_, _^_, _<_}
+use native.Mathlib.Numerals.{add-one}
+use native.Mathlib.Omega.{arith}
+use mathlib.Core.Bool.{Bool}
+use mathlib.Core.List.{List, [], _∷_, _++_, map, flatMap, append-nil}
+use mathlib.Core.Option.{some}
+use mathlib.Core.Path.{_≡_, refl, sym, ap, _∙_}
+use lib.Bits.{bitAnd, bitOr, and-mask}
+use lib.Dec.{eqb}
+use lib.IntN.{ℤ}
+use lib.ListN.{length, take, set, length-append, length-set}
+use lib.Seq.{take-all, take-append-seam, getD-append-seam, take-suc-set}
+use Rattle.ground.specs.Bits.{placesOf}
+use Rattle.ground.specs.Lists.{below}
+use Rattle.ground.specs.Tests.{if_then_else_}
+use Rattle.ground.proofs.Counting.{below-last}
+use Rattle.ground.proofs.Lists.{flatMap-append}
+use Rattle.ground.proofs.Masks.{has, has-shifted}
+use Rattle.rules.specs.declared.Primitive.{Primitive}
+use Rattle.rules.specs.declared.Row.{Row}
+use Rattle.rules.specs.declared.Row.the-variants.{Solid}
+use Rattle.rules.specs.Boxes.{Box, share}
+use Rattle.rules.specs.Products.{boxOf}
+use Rattle.rules.specs.Table.{rowCount, rowAt, solidOf, primitivesBefore}
+use Rattle.laws.specs.Reach.{sharing}
+use Rattle.laws.specs.Sound.{SoundRow, Sound}
+use Rattle.laws.proofs.Expansion.{number-fits}
+use Rattle.laws.proofs.Reach.{places-next}
+use Rattle.table.specs.Reading.{InTable}
+use Rattle.reach.specs.declared.Gathered.{Gathered}
+use Rattle.reach.specs.Gathering.{withOne, Gathers, Meets, Met}
+
+-- ---- bits
+
+-- as code tests one
+pub bit-tested : (i n : ℕ) → eqb (bitAnd (n / 2 ^ i) 1) 1 ≡ has i n
+bit-tested i n = ap (λ (x : ℕ). eqb x 1) (and-mask (n / 2 ^ i) 1) ∙ sym (has-shifted i n)
+
+-- ---- one element more
+
+last-place : {A : Type 0} (test : A → Bool) (xs : List A) (x : A)
+    → placesOf test (xs ++ (x ∷ [])) ≡ bitOr (placesOf test xs) (if test x then 2 ^ length xs else 0)
+last-place {A} test xs x =
+    let all : List A = xs ++ (x ∷ []) in
+    let longer : length all ≡ length xs + 1 = length-append xs (x ∷ []) in
+    ap (placesOf test) (sym (take-all (suc (length xs)) all (omega arith)))
+    ∙ places-next test x all (length xs) (omega arith)
+    ∙ (λ i. bitOr (placesOf test (take-append-seam xs (x ∷ []) i)) (if test (getD-append-seam xs x [] x i) then 2 ^ length xs else 0))
+
+last-mapped : {A B : Type 0} (f : A → B) (xs : List A) (x : A) → map f (xs ++ (x ∷ [])) ≡ map f xs ++ (f x ∷ [])
+last-mapped f [] x = refl
+last-mapped {A} {B} f (y ∷ ys) x = ap (λ (zs : List B). f y ∷ zs) (last-mapped f ys x)
+
+module _ (solids : List Primitive) (s : Primitive) where
+  pub gathers-more : (box : Box) (g : Gathered) → Gathers solids box g → Gathers (solids ++ (s ∷ [])) box (withOne g (share (boxOf s) box))
+  gathers-more box g G = record {
+    set = (λ i. bitOr (G .set i) (if share (boxOf s) box then 2 ^ G .count i else 0)) ∙ sym (last-place (λ p. share (boxOf p) box) solids s);
+    count = ap (λ (n : ℕ). n + 1) (G .count) ∙ sym (length-append solids (s ∷ []));
+  }
+
+  pub meets-more : (all : List Primitive) (count : ℕ) (meets : List ℕ) → count < 64 → Meets all solids count meets
+      → Meets all (solids ++ (s ∷ [])) (count + 1) (set meets count (sharing all (boxOf s)))
+  meets-more all count meets l M = record {
+    size = length-set meets count (sharing all (boxOf s)) ∙ M .size;
+    number = ap (λ (n : ℕ). n + 1) (M .number) ∙ sym (length-append solids (s ∷ []));
+    each =
+        ap (λ (n : ℕ). take n (set meets count (sharing all (boxOf s)))) (add-one count)
+        ∙ take-suc-set meets count (sharing all (boxOf s)) (omega (arith, M .size))
+        ∙ ap (λ (ns : List ℕ). ns ++ (sharing all (boxOf s) ∷ [])) (M .each)
+        ∙ sym (last-mapped (λ p. sharing all (boxOf p)) solids s);
+  }
+
+pub met : {all : List Primitive} {count : ℕ} {meets : List ℕ} → Meets all all count meets → (count ≡ length all) × Met all meets
+met {meets = meets} M = (M .number, record { size = M .size; each = ap (λ (n : ℕ). take n meets) (sym (M .number)) ∙ M .each })
+
+-- ---- one row more
+
+-- what the reading of a row asks
+pub row-there : {t : List ℤ} {row : ℕ} → Sound t → row < rowCount t → InTable t row × SoundRow t row
+row-there {t} {row} S l = (record { whole = omega (arith, S .whole) }, S .rows row l)
+
+-- a primitive's number, where a row was read as one
+pub number-right : {t : List ℤ} {row : ℕ} → Sound t → row < rowCount t → {x : Row} {s : Primitive} → some x ≡ rowAt t row → x ≡ Solid s
+    → length (primitivesBefore t row) < 64
+number-right {t} {row} S l e g = number-fits t S row l (sym e ∙ ap some g)
+
+-- a row that was read as r
+module _ (t : List ℤ) (row : ℕ) {x r : Row} (e : some x ≡ rowAt t row) (g : x ≡ r) where
+  -- its primitive comes after those before it
+  pub row-more : primitivesBefore t row ++ solidOf (some r) ≡ primitivesBefore t (row + 1)
+  unfolding flatMap
+  row-more =
+      ap (λ y. primitivesBefore t row ++ solidOf y) (ap some (sym g) ∙ e)
+      ∙ ap (λ (ps : List Primitive). primitivesBefore t row ++ ps) (sym (append-nil (solidOf (rowAt t row))))
+      ∙ sym (flatMap-append (λ k. solidOf (rowAt t k)) (below row) (row ∷ []))
+      ∙ ap (flatMap (λ k. solidOf (rowAt t k))) (sym (below-last row))
+
+  -- an operation adds none
+  pub none-more : solidOf (some r) ≡ [] → primitivesBefore t row ≡ primitivesBefore t (row + 1)
+  none-more h = sym (append-nil (primitivesBefore t row)) ∙ ap (λ (ps : List Primitive). primitivesBefore t row ++ ps) (sym h) ∙ row-more

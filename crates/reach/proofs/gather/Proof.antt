@@ -1,0 +1,97 @@
+use Prim.Native.Nat.{_+_}
+use native.Mathlib.Omega.{arith}
+use mathlib.Core.List.{List, []}
+use mathlib.Core.Option.{some}
+use mathlib.Core.Path.{_≡_, refl, sym, ap, subst, _∙_}
+use borrow.Author.Needs.{needs}
+use Rattle.rules.specs.declared.Primitive.{Primitive}
+use Rattle.rules.specs.declared.Row.{Row}
+use Rattle.rules.specs.Boxes.{Box, share}
+use Rattle.rules.specs.Inside.{bounds}
+use Rattle.rules.specs.Products.{boxOf}
+use Rattle.rules.specs.Table.{solidOf, primitivesBefore}
+use Rattle.laws.proofs.Trees.{read-right}
+use Rattle.reach.specs.Gathering.{withOne, Gathers}
+use Rattle.reach.proofs.Gathering.{row-there, number-right, row-more, none-more, gathers-more}
+use Rattle.reach.proofs.gather.Statement.{statement}
+use Rattle.reach.proofs.gather.Tie as tie
+
+read-row-requires : tie.Need-read-row-requires
+read-row-requires c κs = row-there (c .pre .0) (c .pre .1 .0)
+
+enum-known-reads : tie.Need-enum-known-reads
+enum-known-reads c = search needs
+
+box-of-requires : tie.Need-box-of-requires
+box-of-requires c κs =
+    let d = c .before .before .before in
+    read-right (d .before .pre .0) (d .before .pre .1 .0) (d .read-row .ensures) (c .before .reads .given .1)
+
+boxes-share-requires : tie.Need-boxes-share-requires
+boxes-share-requires c κs = search needs
+
+added-requires : tie.Need-added-requires
+added-requires c κs =
+    let k = c .before .before .before in
+    let d = k .before .before in
+    let s = d .before in
+    omega (arith, s .pre .1 .1 .count, number-right (s .pre .0) (s .pre .1 .0) (d .read-row .ensures) (k .reads .given .1))
+
+enum-told : tie.Need-enum-told
+enum-told c = search needs
+
+enum-told-2 : tie.Need-enum-told-2
+enum-told-2 c = search needs
+
+enum-told-3 : tie.Need-enum-told-3
+enum-told-3 c = search needs
+
+returns : tie.Need-returns
+returns c =
+    let k = c .before .before .before .before in
+    let d = k .before .before in
+    let s = d .before in
+    let t = s .args .table .now in
+    let row = s .args .row in
+    let box = bounds (s .args .b) in
+    let p = k .reads .given .0 .0 in
+    let shares = c .before .boxes-share .ensures ∙ ap (λ (a : Box). share a box) (c .before .before .box-of .ensures) in
+    let is = c .added .ensures ∙ ap (withOne (s .args .g)) shares in
+    let more = gathers-more (primitivesBefore t row) p box (s .args .g) (s .pre .1 .1) in
+    let next = row-more t row (d .read-row .ensures) (k .reads .given .1) in
+    subst (Gathers (primitivesBefore t (row + 1)) box) (sym is)
+    (subst (λ (ps : List Primitive). Gathers ps box (withOne (s .args .g) (share (boxOf p) box))) next more)
+
+-- an operation's row: what was gathered stays
+module _ (c : tie.After-read-row) {r : Row} (g : c .read-row .result ≡ r) (h : solidOf (some r) ≡ []) where
+  stays : let s = c .before in Gathers (primitivesBefore (s .args .table .now) (s .args .row + 1)) (bounds (s .args .b)) (s .args .g)
+  stays =
+      let s = c .before in
+      let same = none-more (s .args .table .now) (s .args .row) (c .read-row .ensures) g h in
+      subst (λ (ps : List Primitive). Gathers ps (bounds (s .args .b)) (s .args .g)) same (s .pre .1 .1)
+
+returns-2 : tie.Need-returns-2
+returns-2 c = stays (c .before .before) (c .enum-told .given .1) refl
+
+returns-3 : tie.Need-returns-3
+returns-3 c = stays (c .before .before) (c .enum-told2 .given .1) refl
+
+returns-4 : tie.Need-returns-4
+returns-4 c = stays (c .before .before) (c .enum-told3 .given .1) refl
+
+pub gather-spec : {M : Type 1} → statement M
+gather-spec =
+    tie.close
+    (tie.spec
+    read-row-requires
+    enum-known-reads
+    box-of-requires
+    boxes-share-requires
+    added-requires
+    enum-told
+    enum-told-2
+    enum-told-3
+    returns
+    returns-2
+    returns-3
+    returns-4)

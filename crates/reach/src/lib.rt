@@ -1,0 +1,177 @@
+// Which primitives' boxes share a point: with the window, with each other, and with a product's box. Sets of primitives are masks, primitive i as bit i.
+use rules::BoxShape;
+use rules::Primitive;
+use rules::Row;
+use rules::Window;
+ghost use Prim.Native.Nat.{_+_, _≤_, _<_};
+ghost use mathlib.Core.Bool.{true};
+ghost use mathlib.Core.Path.{_≡_};
+ghost use lib.ListN.{length, take};
+ghost use Rattle.rules.specs.Boxes.{windowBox, share};
+ghost use Rattle.rules.specs.Inside.{bounds};
+ghost use Rattle.rules.specs.Products.{boxOf};
+ghost use Rattle.rules.specs.Table.{rowCount, primitivesBefore, primitives};
+ghost use Rattle.laws.specs.Sound.{Sound, solidRight};
+ghost use Rattle.laws.specs.Reach.{sharing, cutDown};
+ghost use Rattle.reach.specs.Gathering.{apart, withOne, Gathers, Meets, Met};
+
+// The primitives that have passed: those whose boxes share a point with a box, and how many there were.
+pub struct Gathered {
+    pub set: u64,
+    pub count: usize,
+}
+
+// A primitive's box.
+fn box_of(s: Primitive) -> BoxShape
+    requires { ⌜ solidRight s ≡ true ⌝ }
+    ensures { λ r. ⌜ bounds r ≡ boxOf s ⌝ }
+{
+    match s {
+        Primitive::Box(b) => b,
+        Primitive::Wedge(w) => w.bounds,
+        Primitive::Drum(d) => BoxShape {
+            xlo: d.cx - d.rx,
+            xhi: d.cx + d.rx,
+            ylo: d.cy - d.ry,
+            yhi: d.cy + d.ry,
+            zlo: d.zlo,
+            zhi: d.zhi,
+        },
+    }
+}
+
+// Two spans have nothing in common.
+fn spans_part(alo: i32, ahi: i32, blo: i32, bhi: i32) -> bool
+    ensures { λ r. ⌜ r ≡ apart (record { lo = alo; hi = ahi }) (record { lo = blo; hi = bhi }) ⌝ }
+{
+    let lo = if alo <= blo { blo } else { alo };
+    let hi = if ahi <= bhi { ahi } else { bhi };
+    hi < lo
+}
+
+// Two boxes share a point.
+fn boxes_share(a: BoxShape, b: BoxShape) -> bool
+    ensures { λ r. ⌜ r ≡ share (bounds a) (bounds b) ⌝ }
+{
+    !(spans_part(a.xlo, a.xhi, b.xlo, b.xhi)
+        | (spans_part(a.ylo, a.yhi, b.ylo, b.yhi) | spans_part(a.zlo, a.zhi, b.zlo, b.zhi)))
+}
+
+// One primitive more, by whether its box shares a point with the box.
+fn added(g: Gathered, shares: bool) -> Gathered
+    requires { ⌜ g .count < 64 ⌝ }
+    ensures { λ r. ⌜ r ≡ withOne g shares ⌝ }
+{
+    let bit: u64 = if shares { 1 << g.count } else { 0 };
+    Gathered {
+        set: g.set | bit,
+        count: g.count + 1,
+    }
+}
+
+// One row more.
+fn gather(table: &[i32], row: usize, b: BoxShape, g: Gathered) -> Gathered
+    requires { ⌜ Sound (now table) ⌝ }
+    requires { ⌜ row < rowCount (now table) ⌝ }
+    requires { ⌜ Gathers (primitivesBefore (now table) row) (bounds b) g ⌝ }
+    ensures { λ r. ⌜ Gathers (primitivesBefore (now (table .entry)) (row + 1)) (bounds b) r ⌝ }
+{
+    let reads = table::read_row(table, row);
+    match reads {
+        Row::Solid(s) => added(g, boxes_share(box_of(s), b)),
+        Row::Union(_, _) => g,
+        Row::Inter(_, _) => g,
+        Row::Diff(_, _) => g,
+    }
+}
+
+// The primitives whose boxes share a point with a box.
+pub fn sharing_with(table: &[i32], b: BoxShape) -> u64
+    requires { ⌜ Sound (now table) ⌝ }
+    ensures { λ r. ⌜ r ≡ sharing (primitives (now (table .entry))) (bounds b) ⌝ }
+{
+    let rows = table.len() / rules::ROW_WORDS;
+    let mut g = Gathered { set: 0, count: 0 };
+    let mut row: usize = 0;
+    while row < rows {
+        g = gather(table, row, b, g);
+        row += 1;
+    }
+    g.set
+}
+
+// The primitives whose boxes share a point with a window.
+pub fn seen_in(table: &[i32], w: Window) -> u64
+    requires { ⌜ Sound (now table) ⌝ }
+    ensures { λ r. ⌜ r ≡ sharing (primitives (now (table .entry))) (windowBox w) ⌝ }
+{
+    let b = BoxShape {
+        xlo: w.xlo,
+        xhi: w.xhi,
+        ylo: w.ylo,
+        yhi: w.yhi,
+        zlo: w.zlo,
+        zhi: w.zhi,
+    };
+    sharing_with(table, b)
+}
+
+// One row more: a primitive's set goes to its own number. The answer is how many primitives there are so far.
+fn meet_row(meets: &mut [u64], table: &[i32], row: usize, count: usize) -> usize
+    requires { ⌜ Sound (now table) ⌝ }
+    requires { ⌜ row < rowCount (now table) ⌝ }
+    requires { ⌜ Meets (primitives (now table)) (primitivesBefore (now table) row) count (now meets) ⌝ }
+    ensures { λ r. ⌜ Meets (primitives (now (table .entry))) (primitivesBefore (now (table .entry)) (row + 1)) r (now (meets .exit)) ⌝ }
+{
+    let reads = table::read_row(table, row);
+    match reads {
+        Row::Solid(s) => {
+            meets[count] = sharing_with(table, box_of(s));
+            count + 1
+        }
+        Row::Union(_, _) => count,
+        Row::Inter(_, _) => count,
+        Row::Diff(_, _) => count,
+    }
+}
+
+// `meet_all` over a slice: the array's length is told where it is lent as one.
+fn meet_rows(meets: &mut [u64], table: &[i32]) -> usize
+    requires { ⌜ Sound (now table) ⌝ }
+    requires { ⌜ length (now meets) ≡ 64 ⌝ }
+    ensures { λ r. ⌜ (r ≡ length (primitives (now (table .entry)))) × Met (primitives (now (table .entry))) (now (meets .exit)) ⌝ }
+{
+    let rows = table.len() / rules::ROW_WORDS;
+    let mut count: usize = 0;
+    let mut row: usize = 0;
+    while row < rows {
+        count = meet_row(meets, table, row, count);
+        row += 1;
+    }
+    count
+}
+
+// For each primitive, those whose boxes share a point with its own; and how many primitives there are.
+pub fn meet_all(meets: &mut [u64; 64], table: &[i32]) -> usize
+    requires { ⌜ Sound (now table) ⌝ }
+    ensures { λ r. ⌜ (r ≡ length (primitives (now (table .entry)))) × Met (primitives (now (table .entry))) (now (meets .exit)) ⌝ }
+{
+    meet_rows(meets, table)
+}
+
+// What is left of a set after each chosen primitive has cut it.
+pub fn cut_down(meets: &[u64; 64], primitives: usize, chosen: u64, set: u64) -> u64
+    requires { ⌜ primitives ≤ 64 ⌝ }
+    requires { ⌜ length (now meets) ≡ 64 ⌝ }
+    ensures { λ r. ⌜ r ≡ cutDown (take primitives (now (meets .entry))) chosen set ⌝ }
+{
+    let mut left = set;
+    let mut i: usize = 0;
+    while i < primitives {
+        if (chosen >> i) & 1 == 1 {
+            left = meets[i] & left;
+        }
+        i += 1;
+    }
+    left
+}
