@@ -4,7 +4,6 @@ use rules::Row;
 ghost use Prim.Native.Nat.{_+_, _<_};
 ghost use mathlib.Core.Bool.{_&&_};
 ghost use mathlib.Core.Path.{_≡_};
-ghost use lib.Dec.{eqb};
 ghost use lib.ListN.{length};
 ghost use Rattle.rules.specs.Choices.{joined};
 ghost use Rattle.rules.specs.Table.{rowCount, primitives, primitivesBefore};

@@ -5,10 +5,11 @@ use native.Mathlib.Decide.{decLe}
 use native.Mathlib.Numerals.{add-one}
 use native.Mathlib.Omega.{arith}
 use mathlib.Core.Bool.{Bool, true, false, _&&_}
-use mathlib.Core.List.{List, [], _∷_, _++_, map}
+use mathlib.Core.List.{List, [], _∷_, _++_, map, flatMap, append-nil}
 use mathlib.Core.Option.{Option, none, some}
 use mathlib.Core.Path.{_≡_, refl, sym, ap, _∙_}
 use Rattle.ground.proofs.Branches.{and-left, and-right}
+use Rattle.ground.proofs.Lists.{flatMap-append}
 use Rattle.ground.specs.Lists.{from, rest, below, all, orElse, firstOf, rulings}
 
 pub rest-cons : (k n : ℕ) → k < n → rest k n ≡ k ∷ rest (k + 1) n
@@ -41,6 +42,12 @@ from-last start n = ap (from start) (add-one n) ∙ go start n
 
 pub below-last : (n : ℕ) → below (n + 1) ≡ below n ++ (n ∷ [])
 below-last n = from-last 0 n ∙ ap (λ (k : ℕ). below n ++ (k ∷ [])) (zero-add n)
+
+-- what the numbers up to n give, from what those below it give
+pub flatMap-next : {A : Type 0} (f : ℕ → List A) (n : ℕ) → flatMap f (below (n + 1)) ≡ flatMap f (below n) ++ f n
+unfolding flatMap
+flatMap-next {A} f n =
+    ap (flatMap f) (below-last n) ∙ flatMap-append f (below n) (n ∷ []) ∙ ap (λ (xs : List A). flatMap f (below n) ++ xs) (append-nil (f n))
 
 -- a rule for each number: the first that is broken
 module _ {A : Type 0} (rule : ℕ → Option A) (k n : ℕ) where

@@ -4,7 +4,7 @@ use native.Mathlib.Nat.{le-refl, le-trans, le-of-suc-le-suc, eq-or-lt-of-le, lt-
 use native.Mathlib.Numerals.{add-one}
 use native.Mathlib.Omega.{arith}
 use mathlib.Core.Bool.{Bool, true, false}
-use mathlib.Core.List.{List, [], _∷_, _++_, flatMap, append-nil}
+use mathlib.Core.List.{List, [], _∷_, _++_, flatMap}
 use mathlib.Core.Logic.{_⊎_, inl, inr, ⊎-elim}
 use mathlib.Core.Option.{some}
 use mathlib.Core.Path.{_≡_, refl, sym, ap, ap₂, subst, _∙_}
@@ -16,8 +16,7 @@ use lib.ListN.{length, length-append}
 use lib.Pow.{pow-lt, pow-mono}
 use Rattle.ground.specs.Tests.{if_then_else_}
 use Rattle.ground.specs.Lists.{from, below, countIf}
-use Rattle.ground.proofs.Counting.{below-last}
-use Rattle.ground.proofs.Lists.{flatMap-append}
+use Rattle.ground.proofs.Counting.{flatMap-next}
 use Rattle.ground.proofs.Masks.{or-and}
 use Rattle.rules.specs.declared.Primitive.{Primitive}
 use Rattle.rules.specs.declared.Row.{Row}
@@ -34,11 +33,7 @@ use Rattle.laws.proofs.Trees.{tree-row}
 
 -- what the rows up to one give, from what those before it give
 next-row : {B : Type 0} (f : ℕ → List B) (row : ℕ) → flatMap f (below (suc row)) ≡ flatMap f (below row) ++ f row
-unfolding flatMap
-next-row {B} f row =
-    ap (λ (ks : List ℕ). flatMap f ks) (ap below (sym (add-one row)) ∙ below-last row)
-    ∙ flatMap-append f (below row) (row ∷ [])
-    ∙ ap (λ (bs : List B). flatMap f (below row) ++ bs) (append-nil (f row))
+next-row f row = ap (λ (k : ℕ). flatMap f (below k)) (sym (add-one row)) ∙ flatMap-next f row
 
 rising : (g : ℕ → ℕ) → ((k : ℕ) → g k ≤ g (suc k)) → (a b : ℕ) → a ≤ b → g a ≤ g b
 rising g up a zero h = let e : a ≡ 0 = omega arith in rw e (le-refl (g 0))

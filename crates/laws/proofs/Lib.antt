@@ -17,6 +17,7 @@ pub mod Kept
 pub mod Firsts
 pub mod Listing
 pub mod Origins
+pub mod Windows
 pub mod Words
 pub mod Listed
 pub mod Promise

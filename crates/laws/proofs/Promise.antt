@@ -2,31 +2,25 @@
 use Prim.Native.Nat.{ℕ, suc, _+_, _-_, _*_, _^_, _≤_, _<_}
 use native.Mathlib.Nat.{lt-of-le-of-lt}
 use native.Mathlib.Omega.{arith}
-use mathlib.Core.Bool.{true, false, _&&_, _||_}
 use mathlib.Core.List.{List, [], _∷_}
 use mathlib.Core.Option.{Option, none, some}
 use mathlib.Core.Path.{_≡_, refl, sym, ap, ap₂, subst, _∙_}
-use borrow.Author.Tests.{leb-true, le-leb, lt-leb, le-ltb}
+use borrow.Author.Tests.{le-leb, lt-leb}
 use lib.Bits.{and-le-r}
-use lib.IntN.{ℤ, pos, negsuc}
+use lib.IntN.{ℤ}
 use lib.ListN.{length, getD, drop}
 use lib.Seq.{getD-append-add, getD-drop}
-use lib.Signed.{leZ, ltZ}
 use Rattle.ground.specs.Lists.{All, firstOf}
-use Rattle.ground.proofs.Branches.{false-true, and-right}
 use Rattle.ground.proofs.Counting.{first-kept}
 use Rattle.rules.specs.declared.Product.{Product}
 use Rattle.rules.specs.declared.Refusal.{Refusal}
 use Rattle.rules.specs.declared.Window.{Window}
 use Rattle.rules.specs.declared.Written.{Written}
-use Rattle.rules.specs.Boxes.{windowBox, empty}
 use Rattle.rules.specs.Choices.{choices, inOf, expansion}
 use Rattle.rules.specs.ListCalls.{mostChoices, windowRefusal, zoneList, makeRefusal, ListMade}
 use Rattle.rules.specs.ListWords.{word}
 use Rattle.rules.specs.Outcome.{leave, over}
 use Rattle.rules.specs.Products.{products}
-use Rattle.rules.specs.Ranges.{Span, within, columns, codes, frames}
-use Rattle.rules.specs.Refusals.{refuseUnless}
 use Rattle.rules.specs.Table.{primitives, rowCount}
 use Rattle.rules.specs.Told.{wrote, refused, tell, toldWritten}
 use Rattle.rules.specs.Tree.{treeOf}
@@ -39,8 +33,9 @@ use Rattle.laws.specs.Sound.{Sound}
 use Rattle.laws.proofs.Apart.{mask-in-table}
 use Rattle.laws.proofs.Listed.{listed}
 use Rattle.laws.proofs.Reach.{products-listing}
-use Rattle.laws.proofs.Soundness.{unless-kept, table-sound}
+use Rattle.laws.proofs.Soundness.{table-sound}
 use Rattle.laws.proofs.Ways.{choices-ways, ways-count, ways-kth, kth-within}
+use Rattle.laws.proofs.Windows.{window-filled}
 use Rattle.laws.proofs.Words.{list-length}
 
 -- ---- a sound table and a right window
@@ -64,29 +59,6 @@ pub plain-in-table : (t : List ℤ) → Sound t → All (λ c. c .plain < 2 ^ le
 plain-in-table t S =
     subst (All (λ c. c .plain < 2 ^ length (primitives t))) (sym (choices-ways inOf (treeOf t)))
     (ways-below (plan inOf (treeOf t)) (length (primitives t)) (mask-in-table t S (rowCount t - 1) (omega (arith, S .some-row)) inOf))
-
-not-past : (a b : ℤ) → leZ a b ≡ true → ltZ b a ≡ false
-not-past (pos a) (pos b) h = le-ltb b a (leb-true a b h)
-not-past (pos a) (negsuc b) h = false-true h
-not-past (negsuc a) (pos b) h = refl
-not-past (negsuc a) (negsuc b) h = le-ltb a b (leb-true b a h)
-
--- the two rules of an axis
-axis-filled : (s : Span) (lo hi : ℤ) (j k : ℕ) (others : List (Option Refusal))
-    → firstOf (refuseUnless (within s lo) 6 j ∷ refuseUnless (within s hi && leZ lo hi) 6 k ∷ others) ≡ none
-    → (ltZ hi lo ≡ false) × (firstOf others ≡ none)
-axis-filled s lo hi j k others e =
-    let bounds = first-kept (refuseUnless (within s lo) 6 j) (refuseUnless (within s hi && leZ lo hi) 6 k ∷ others) e in
-    let upper = first-kept (refuseUnless (within s hi && leZ lo hi) 6 k) others (bounds .1) in
-    (not-past lo hi (and-right (within s hi) (leZ lo hi) (unless-kept (within s hi && leZ lo hi) 6 k (upper .0))), upper .1)
-
--- a window that is not refused is not empty
-pub window-filled : (w : Window) → windowRefusal w ≡ none → empty (windowBox w) ≡ false
-window-filled w e =
-    let x = axis-filled columns (w .xlo) (w .xhi) 0 1 _ e in
-    let y = axis-filled codes (w .ylo) (w .yhi) 2 3 _ (x .1) in
-    let z = axis-filled frames (w .zlo) (w .zhi) 4 5 [] (y .1) in
-    ap₂ _||_ (x .0) (ap₂ _||_ (y .0) (z .0))
 
 -- the products are the list of the ways of choosing, by what shares a point with what
 pub products-are-listing : (t : List ℤ) (w : Window) → Sound t → windowRefusal w ≡ none

@@ -2,7 +2,7 @@
 use Prim.Native.Nat.{ℕ, _+_, _*_, _≤_, _<_}
 use native.Mathlib.Nat.{zero-add}
 use native.Mathlib.Omega.{arith}
-use mathlib.Core.Bool.{Bool, true, _&&_}
+use mathlib.Core.Bool.{Bool, _&&_}
 use mathlib.Core.List.{List, [], _∷_, _++_, flatMap, append-assoc}
 use mathlib.Core.Option.{Option, none, some}
 use mathlib.Core.Path.{_≡_, sym, ap, subst, _∙_}
@@ -14,8 +14,6 @@ use lib.ListN.{length, take, drop, length-append}
 use lib.Seq.{sets, sets-eq, length-sets, length-take-le, drop-append-seam}
 use lib.Signed.{leZ}
 use Rattle.ground.specs.Lists.{firstOf}
-use Rattle.ground.proofs.Branches.{and-left}
-use Rattle.ground.proofs.Counting.{first-kept}
 use Rattle.rules.specs.declared.Checked.{Checked}
 use Rattle.rules.specs.declared.Product.{Product}
 use Rattle.rules.specs.declared.Refusal.{Refusal}
@@ -38,7 +36,6 @@ use Rattle.laws.specs.Sound.{Sound}
 use Rattle.laws.specs.Plans.{plan, ways, count}
 use Rattle.laws.specs.Listing.{listing}
 use Rattle.laws.specs.Reach.{sharing, meetings, cutDown}
-use Rattle.laws.proofs.Soundness.{unless-kept}
 use Rattle.laws.proofs.Ways.{choices-ways, ways-count}
 use Rattle.laws.proofs.Words.{list-length}
 use Rattle.laws.proofs.Promise.{products-are-listing}
@@ -56,43 +53,6 @@ pub window-by : (w : Window) {a b c d e f : Bool} {r : Checked}
     → r ≡ checkedBy (windowRefusal w)
 window-by w pa pb pc pd pe pf h =
     h ∙ (λ i. checkedBy (firstOf (refuseUnless (pa i) 6 0 ∷ refuseUnless (pb i) 6 1 ∷ refuseUnless (pc i) 6 2 ∷ refuseUnless (pd i) 6 3 ∷ refuseUnless (pe i) 6 4 ∷ refuseUnless (pf i) 6 5 ∷ [])))
-
--- a window that is right has each bound in range
-pub record InRange (w : Window) : Type 0 where
-  pub xlo : within columns (w .xlo) ≡ true
-  pub xhi : within columns (w .xhi) ≡ true
-  pub ylo : within codes (w .ylo) ≡ true
-  pub yhi : within codes (w .yhi) ≡ true
-  pub zlo : within frames (w .zlo) ≡ true
-  pub zhi : within frames (w .zhi) ≡ true
-
-pub in-range : (w : Window) → windowRefusal w ≡ none → InRange w
-in-range w e =
-    let xlo = within columns (w .xlo) in
-    let xhi = within columns (w .xhi) in
-    let xs = leZ (w .xlo) (w .xhi) in
-    let ylo = within codes (w .ylo) in
-    let yhi = within codes (w .yhi) in
-    let ys = leZ (w .ylo) (w .yhi) in
-    let zlo = within frames (w .zlo) in
-    let zhi = within frames (w .zhi) in
-    let zs = leZ (w .zlo) (w .zhi) in
-    let four = refuseUnless zlo 6 4 ∷ refuseUnless (zhi && zs) 6 5 ∷ [] in
-    let two = refuseUnless ylo 6 2 ∷ refuseUnless (yhi && ys) 6 3 ∷ four in
-    let a = first-kept (refuseUnless xlo 6 0) (refuseUnless (xhi && xs) 6 1 ∷ two) e in
-    let b = first-kept (refuseUnless (xhi && xs) 6 1) two (a .1) in
-    let c = first-kept (refuseUnless ylo 6 2) (refuseUnless (yhi && ys) 6 3 ∷ four) (b .1) in
-    let d = first-kept (refuseUnless (yhi && ys) 6 3) four (c .1) in
-    let f = first-kept (refuseUnless zlo 6 4) (refuseUnless (zhi && zs) 6 5 ∷ []) (d .1) in
-    let g = first-kept (refuseUnless (zhi && zs) 6 5) [] (f .1) in
-    record {
-      xlo = unless-kept xlo 6 0 (a .0);
-      xhi = and-left xhi xs (unless-kept (xhi && xs) 6 1 (b .0));
-      ylo = unless-kept ylo 6 2 (c .0);
-      yhi = and-left yhi ys (unless-kept (yhi && ys) 6 3 (d .0));
-      zlo = unless-kept zlo 6 4 (f .0);
-      zhi = and-left zhi zs (unless-kept (zhi && zs) 6 5 (g .0));
-    }
 
 -- ---- by the first rule that is broken
 

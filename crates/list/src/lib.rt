@@ -14,13 +14,11 @@ ghost use lib.Seq.{sets};
 ghost use lib.Signed.{leZ};
 ghost use Rattle.ground.specs.Lists.{firstOf};
 ghost use Rattle.rules.specs.Ranges.{within, columns};
-ghost use Rattle.rules.specs.Table.{primitives};
 ghost use Rattle.rules.specs.Verdict.{tableRefusal};
 ghost use Rattle.rules.specs.ListWords.{raised, wordsOf};
 ghost use Rattle.rules.specs.ListCalls.{windowRefusal, ListMade};
 ghost use Rattle.rules.specs.Refusals.{refuseUnless};
 ghost use Rattle.laws.specs.Answers.{checkedBy};
-ghost use Rattle.laws.specs.Sound.{Sound};
 ghost use Rattle.laws.specs.Plans.{count};
 ghost use Rattle.choice.specs.Steps.{Numbered, Remembered};
 ghost use Rattle.list.specs.Growth.{gained, rootPlan, listed, Ready, Measured, header};
@@ -31,6 +29,7 @@ pub enum Gain {
     One(Product),
 }
 
+// What the k-th way adds: its product after its cuts, unless its box is empty or an earlier way came to the same.
 fn try_way(
     table: &[i32],
     bits: &[u64; 127],
@@ -61,6 +60,7 @@ fn try_way(
     })
 }
 
+// How many products that is.
 fn size(x: Gain) -> usize
     ensures { λ r. ⌜ (r ≡ length (gained x)) × (r ≤ 1) ⌝ }
 {

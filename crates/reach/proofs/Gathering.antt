@@ -3,7 +3,7 @@ use Prim.Native.Nat.{ℕ, suc, _+_, _/_, _^_, _<_}
 use native.Mathlib.Numerals.{add-one}
 use native.Mathlib.Omega.{arith}
 use mathlib.Core.Bool.{Bool}
-use mathlib.Core.List.{List, [], _∷_, _++_, map, flatMap, append-nil}
+use mathlib.Core.List.{List, [], _∷_, _++_, map, append-nil}
 use mathlib.Core.Option.{some}
 use mathlib.Core.Path.{_≡_, refl, sym, ap, _∙_}
 use lib.Bits.{bitAnd, bitOr, and-mask}
@@ -12,10 +12,8 @@ use lib.IntN.{ℤ}
 use lib.ListN.{length, take, set, length-append, length-set}
 use lib.Seq.{take-all, take-append-seam, getD-append-seam, take-suc-set}
 use Rattle.ground.specs.Bits.{placesOf}
-use Rattle.ground.specs.Lists.{below}
 use Rattle.ground.specs.Tests.{if_then_else_}
-use Rattle.ground.proofs.Counting.{below-last}
-use Rattle.ground.proofs.Lists.{flatMap-append}
+use Rattle.ground.proofs.Counting.{flatMap-next}
 use Rattle.ground.proofs.Masks.{has, has-shifted}
 use Rattle.rules.specs.declared.Primitive.{Primitive}
 use Rattle.rules.specs.declared.Row.{Row}
@@ -24,10 +22,9 @@ use Rattle.rules.specs.Boxes.{Box, share}
 use Rattle.rules.specs.Products.{boxOf}
 use Rattle.rules.specs.Table.{rowCount, rowAt, solidOf, primitivesBefore}
 use Rattle.laws.specs.Reach.{sharing}
-use Rattle.laws.specs.Sound.{SoundRow, Sound}
+use Rattle.laws.specs.Sound.{Sound}
 use Rattle.laws.proofs.Expansion.{number-fits}
 use Rattle.laws.proofs.Reach.{places-next}
-use Rattle.table.specs.Reading.{InTable}
 use Rattle.reach.specs.declared.Gathered.{Gathered}
 use Rattle.reach.specs.Gathering.{withOne, Gathers, Meets, Met}
 
@@ -77,9 +74,6 @@ met {meets = meets} M = (M .number, record { size = M .size; each = ap (λ (n : 
 -- ---- one row more
 
 -- what the reading of a row asks
-pub row-there : {t : List ℤ} {row : ℕ} → Sound t → row < rowCount t → InTable t row × SoundRow t row
-row-there {t} {row} S l = (record { whole = omega (arith, S .whole) }, S .rows row l)
-
 -- a primitive's number, where a row was read as one
 pub number-right : {t : List ℤ} {row : ℕ} → Sound t → row < rowCount t → {x : Row} {s : Primitive} → some x ≡ rowAt t row → x ≡ Solid s
     → length (primitivesBefore t row) < 64
@@ -89,13 +83,7 @@ number-right {t} {row} S l e g = number-fits t S row l (sym e ∙ ap some g)
 module _ (t : List ℤ) (row : ℕ) {x r : Row} (e : some x ≡ rowAt t row) (g : x ≡ r) where
   -- its primitive comes after those before it
   pub row-more : primitivesBefore t row ++ solidOf (some r) ≡ primitivesBefore t (row + 1)
-  unfolding flatMap
-  row-more =
-      ap (λ y. primitivesBefore t row ++ solidOf y) (ap some (sym g) ∙ e)
-      ∙ ap (λ (ps : List Primitive). primitivesBefore t row ++ ps) (sym (append-nil (solidOf (rowAt t row))))
-      ∙ sym (flatMap-append (λ k. solidOf (rowAt t k)) (below row) (row ∷ []))
-      ∙ ap (flatMap (λ k. solidOf (rowAt t k))) (sym (below-last row))
+  row-more = ap (λ y. primitivesBefore t row ++ solidOf y) (ap some (sym g) ∙ e) ∙ sym (flatMap-next (λ k. solidOf (rowAt t k)) row)
 
-  -- an operation adds none
   pub none-more : solidOf (some r) ≡ [] → primitivesBefore t row ≡ primitivesBefore t (row + 1)
   none-more h = sym (append-nil (primitivesBefore t row)) ∙ ap (λ (ps : List Primitive). primitivesBefore t row ++ ps) (sym h) ∙ row-more

@@ -16,12 +16,12 @@ use Rattle.rules.specs.declared.Kind.the-variants as kind
 use Rattle.rules.specs.declared.Row.{Row}
 use Rattle.rules.specs.declared.Row.the-variants.{Union, Inter, Diff}
 use Rattle.rules.specs.Kinds.{kindNumber, kindOf}
-use Rattle.rules.specs.Table.{wordAt, operation, rowOf, rowBy, kindAt, rowAt}
+use Rattle.rules.specs.Table.{rowCount, wordAt, operation, rowOf, rowBy, kindAt, rowAt}
 use Rattle.rules.specs.Fields.{earlier, childrenRight}
-use Rattle.laws.specs.Sound.{SoundRow}
+use Rattle.laws.specs.Sound.{SoundRow, Sound}
 use Rattle.laws.proofs.Numbering.{number-kind, kind-number, no-kind}
 use Rattle.table.specs.declared.Named.the-variants as named
-use Rattle.table.specs.Reading.{isPrimitive, IsOperation, namedBy}
+use Rattle.table.specs.Reading.{isPrimitive, InTable, IsOperation, namedBy}
 
 -- ---- a kind from its number
 
@@ -105,3 +105,8 @@ children-by kind.Diff w row = refl
 pub earlier-read : (row : ℕ) (z : ℤ) → (leZ (pos 0) z && ltZ z (pos row)) ≡ earlier row z
 earlier-read row (pos n) = ap (λ (b : Bool). b && ltb n row) (leb·zero n)
 earlier-read row (negsuc n) = refl
+
+-- ---- a row of a sound table can be read
+
+pub row-there : {t : List ℤ} {row : ℕ} → Sound t → row < rowCount t → InTable t row × SoundRow t row
+row-there {t} {row} S l = (record { whole = omega (arith, S .whole) }, S .rows row l)

@@ -5,7 +5,7 @@ use native.Mathlib.Numerals.{add-one}
 use native.Mathlib.Decide.{ℕ-discrete}
 use native.Mathlib.Omega.{arith}
 use mathlib.Core.Bool.{Bool, true, false}
-use mathlib.Core.List.{List, [], _∷_, _++_, flatMap, append-nil, cons≢nil}
+use mathlib.Core.List.{List, [], _∷_, _++_, flatMap, cons≢nil}
 use mathlib.Core.Option.{Option, none, some}
 use mathlib.Core.Path.{_≡_, refl, sym, ap, subst, _∙_}
 use borrow.Author.Tests.{eq-eqb, ne-eqb}
@@ -14,9 +14,8 @@ use lib.IntN.{ℤ}
 use lib.ListN.{length, getD, replicate, length-set, length-append, length-replicate, getD-replicate}
 use lib.Seq.{getD-set-same, getD-set-other}
 use Rattle.ground.specs.Tests.{if_then_else_}
-use Rattle.ground.specs.Lists.{from, below, countIf}
-use Rattle.ground.proofs.Counting.{below-last}
-use Rattle.ground.proofs.Lists.{flatMap-append}
+use Rattle.ground.specs.Lists.{from, countIf}
+use Rattle.ground.proofs.Counting.{flatMap-next}
 use Rattle.rules.specs.declared.Row.{Row}
 use Rattle.rules.specs.declared.Row.the-variants.{Solid, Union, Inter, Diff}
 use Rattle.rules.specs.Table.{rowAt}
@@ -73,11 +72,7 @@ count-le test (x ∷ xs) = go (test x) (count-le test xs)
 -- one row more
 module _ (t : List ℤ) (row : ℕ) where
   pub children-more : childrenTo t (row + 1) ≡ childrenTo t row ++ childrenOf (rowAt t row)
-  unfolding flatMap
-  children-more =
-      ap (flatMap (λ r. childrenOf (rowAt t r))) (below-last row)
-      ∙ flatMap-append (λ r. childrenOf (rowAt t r)) (below row) (row ∷ [])
-      ∙ ap (λ (cs : List ℕ). childrenTo t row ++ cs) (append-nil (childrenOf (rowAt t row)))
+  children-more = flatMap-next (λ r. childrenOf (rowAt t r)) row
 
 two : (r : Option Row) → length (childrenOf r) ≤ 2
 two none = omega arith

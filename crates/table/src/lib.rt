@@ -7,7 +7,7 @@ use rules::Primitive;
 use rules::Refusal;
 use rules::Row;
 use rules::WedgeShape;
-ghost use Prim.Native.Nat.{_+_, _-_, _*_, _≤_, _<_};
+ghost use Prim.Native.Nat.{_+_, _*_, _≤_, _<_};
 ghost use mathlib.Core.Option.{some};
 ghost use mathlib.Core.Path.{_≡_};
 ghost use lib.Dec.{T};

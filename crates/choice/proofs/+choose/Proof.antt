@@ -1,11 +1,12 @@
-use Rattle.choice.proofs.Parts.{left-fits, right-fits, kth-left, kth-right, left-ways, low-fits, high-fits, kth-both, kth-in, kth-out}
-use Rattle.choice.proofs.Steps.{as-step, asks}
-use mathlib.Core.Path.{_∙_}
-use native.Mathlib.Omega.{arith}
-use borrow.Author.Needs.{needs}
+-- The k-th way, by recursion on the row: k falls to one part of an `either`, and k's two digits to the parts of a `both`. Assumes nothing.
 use Prim.Native.Nat.{ℕ, _<_}
+use native.Mathlib.Omega.{arith}
+use mathlib.Core.Path.{_∙_}
+use borrow.Author.Needs.{needs}
 use borrow.Fn.Kinds.{In}
 use borrow.Fn.PlainCycle.{Measures, is, falls, and}
+use Rattle.choice.proofs.Parts.{left-fits, right-fits, kth-left, kth-right, left-ways, low-fits, high-fits, kth-both, kth-in, kth-out}
+use Rattle.choice.proofs.Steps.{as-step, asks}
 use Rattle.choice.proofs.choose.Reads as choose
 use Rattle.choice.proofs.choose.Kinds as choose-kinds
 use Rattle.choice.proofs.+choose.Lts-choose as choose-lts
@@ -49,49 +50,95 @@ choose-enum-known-step-3 : (t : ℕ) → choose-lts.Need-enum-known-step-3 (told
 choose-enum-known-step-3 t c = search needs
 
 choose-count-ways-requires : (t : ℕ) → choose-lts.Need-count-ways-requires (told t) (choose-at t) choose.Post
-choose-count-ways-requires t c κs = let s = c .before .before .before .before .before in let i = as-step _ _ _ (c .before .before .before .before .read-step .ensures) (c .before .before .step3 .given .1) in (s .pre .1 .0, (omega (arith, s .pre .1 .1 .0, i .1), (s .pre .1 .1 .1 .0, s .pre .1 .1 .1 .1 .0)))
+choose-count-ways-requires t c κs =
+    let s = c .before .before .before .before .before in
+    let i = as-step _ _ _ (c .before .before .before .before .read-step .ensures) (c .before .before .step3 .given .1) in
+    (s .pre .1 .0, (omega (arith, s .pre .1 .1 .0, i .1), (s .pre .1 .1 .1 .0, s .pre .1 .1 .1 .1 .0)))
 
 choose-choose-requires : (t : ℕ) → choose-lts.Need-choose-requires (told t) (choose-at t) choose.Post
-choose-choose-requires t c κs = let s = c .before .before .before .before .before .before .before .before in let i = as-step _ _ _ (c .before .before .before .before .before .before .before .read-step .ensures) (c .before .before .before .before .before .step3 .given .1) in let n = c .before .before .count-ways .ensures in asks (s .pre) (i .1) (s .pre .1 .1 .1 .0, (n .1, left-fits (i .0) (n .0) (s .args .k) (c .before .if1 .taken)))
+choose-choose-requires t c κs =
+    let s = c .before .before .before .before .before .before .before .before in
+    let i = as-step _ _ _ (c .before .before .before .before .before .before .before .read-step .ensures) (c .before .before .before .before .before .step3 .given .1) in
+    let n = c .before .before .count-ways .ensures in
+    asks (s .pre) (i .1) (s .pre .1 .1 .1 .0, (n .1, left-fits (i .0) (n .0) (s .args .k) (c .before .if1 .taken)))
 
 choose-returns : (t : ℕ) → choose-lts.Need-returns (told t) (choose-at t) choose.Post
-choose-returns t c = let s = c .before .before .before .before .before .before .before .before .before in let i = as-step _ _ _ (c .before .before .before .before .before .before .before .before .read-step .ensures) (c .before .before .before .before .before .before .step3 .given .1) in let n = c .before .before .before .count-ways .ensures in (c .choose .ensures .0 ∙ kth-left (i .0) (n .0) (s .args .k) (c .before .before .if1 .taken), c .choose .ensures .1)
+choose-returns t c =
+    let s = c .before .before .before .before .before .before .before .before .before in
+    let i = as-step _ _ _ (c .before .before .before .before .before .before .before .before .read-step .ensures) (c .before .before .before .before .before .before .step3 .given .1) in
+    let n = c .before .before .before .count-ways .ensures in
+    (c .choose .ensures .0 ∙ kth-left (i .0) (n .0) (s .args .k) (c .before .before .if1 .taken), c .choose .ensures .1)
 
 choose-choose-requires-2 : (t : ℕ) → choose-lts.Need-choose-requires-2 (told t) (choose-at t) choose.Post
-choose-choose-requires-2 t c κs = let s = c .before .before .before .before .before .before .before .before in let i = as-step _ _ _ (c .before .before .before .before .before .before .before .read-step .ensures) (c .before .before .before .before .before .step3 .given .1) in let n = c .before .before .count-ways .ensures in asks (s .pre) (i .2) (s .pre .1 .1 .1 .0, (n .1, right-fits (i .0) (n .0) (s .args .k) (s .pre .1 .1 .1 .1 .1) (c .before .if1 .left)))
+choose-choose-requires-2 t c κs =
+    let s = c .before .before .before .before .before .before .before .before in
+    let i = as-step _ _ _ (c .before .before .before .before .before .before .before .read-step .ensures) (c .before .before .before .before .before .step3 .given .1) in
+    let n = c .before .before .count-ways .ensures in
+    asks (s .pre) (i .2) (s .pre .1 .1 .1 .0, (n .1, right-fits (i .0) (n .0) (s .args .k) (s .pre .1 .1 .1 .1 .1) (c .before .if1 .left)))
 
 choose-enum-known-step-4 : (t : ℕ) → choose-lts.Need-enum-known-step-4 (told t) (choose-at t) choose.Post
 choose-enum-known-step-4 t c = search needs
 
 choose-count-ways-requires-2 : (t : ℕ) → choose-lts.Need-count-ways-requires-2 (told t) (choose-at t) choose.Post
-choose-count-ways-requires-2 t c κs = let s = c .before .before .before .before .before in let i = as-step _ _ _ (c .before .before .before .before .read-step .ensures) (c .before .before .step4 .given .1) in (s .pre .1 .0, (omega (arith, s .pre .1 .1 .0, i .1), (s .pre .1 .1 .1 .0, s .pre .1 .1 .1 .1 .0)))
+choose-count-ways-requires-2 t c κs =
+    let s = c .before .before .before .before .before in
+    let i = as-step _ _ _ (c .before .before .before .before .read-step .ensures) (c .before .before .step4 .given .1) in
+    (s .pre .1 .0, (omega (arith, s .pre .1 .1 .0, i .1), (s .pre .1 .1 .1 .0, s .pre .1 .1 .1 .1 .0)))
 
 choose-rem-choose : (t : ℕ) → choose-lts.Need-rem-choose (told t) (choose-at t) choose.Post
-choose-rem-choose t c = let s = c .before .before .before .before .before .before .before in let i = as-step _ _ _ (c .before .before .before .before .before .before .read-step .ensures) (c .before .before .before .before .step4 .given .1) in left-ways (i .0) (c .before .count-ways2 .ensures .0) (s .args .k) (s .pre .1 .1 .1 .1 .1)
+choose-rem-choose t c =
+    let s = c .before .before .before .before .before .before .before in
+    let i = as-step _ _ _ (c .before .before .before .before .before .before .read-step .ensures) (c .before .before .before .before .step4 .given .1) in
+    left-ways (i .0) (c .before .count-ways2 .ensures .0) (s .args .k) (s .pre .1 .1 .1 .1 .1)
 
 choose-choose-requires-3 : (t : ℕ) → choose-lts.Need-choose-requires-3 (told t) (choose-at t) choose.Post
-choose-choose-requires-3 t c κs = let s = c .before .before .before .before .before .before .before in let i = as-step _ _ _ (c .before .before .before .before .before .before .read-step .ensures) (c .before .before .before .before .step4 .given .1) in let n = c .before .count-ways2 .ensures in asks (s .pre) (i .1) (s .pre .1 .1 .1 .0, (n .1, low-fits (i .0) (n .0) (s .args .k) (s .pre .1 .1 .1 .1 .1)))
+choose-choose-requires-3 t c κs =
+    let s = c .before .before .before .before .before .before .before in
+    let i = as-step _ _ _ (c .before .before .before .before .before .before .read-step .ensures) (c .before .before .before .before .step4 .given .1) in
+    let n = c .before .count-ways2 .ensures in
+    asks (s .pre) (i .1) (s .pre .1 .1 .1 .0, (n .1, low-fits (i .0) (n .0) (s .args .k) (s .pre .1 .1 .1 .1 .1)))
 
 choose-div-choose : (t : ℕ) → choose-lts.Need-div-choose (told t) (choose-at t) choose.Post
-choose-div-choose t c = let s = c .before .before .before .before .before .before .before .before .before in let i = as-step _ _ _ (c .before .before .before .before .before .before .before .before .read-step .ensures) (c .before .before .before .before .before .before .step4 .given .1) in left-ways (i .0) (c .before .before .before .count-ways2 .ensures .0) (s .args .k) (s .pre .1 .1 .1 .1 .1)
+choose-div-choose t c =
+    let s = c .before .before .before .before .before .before .before .before .before in
+    let i = as-step _ _ _ (c .before .before .before .before .before .before .before .before .read-step .ensures) (c .before .before .before .before .before .before .step4 .given .1) in
+    left-ways (i .0) (c .before .before .before .count-ways2 .ensures .0) (s .args .k) (s .pre .1 .1 .1 .1 .1)
 
 choose-choose-requires-4 : (t : ℕ) → choose-lts.Need-choose-requires-4 (told t) (choose-at t) choose.Post
-choose-choose-requires-4 t c κs = let s = c .before .before .before .before .before .before .before .before .before in let i = as-step _ _ _ (c .before .before .before .before .before .before .before .before .read-step .ensures) (c .before .before .before .before .before .before .step4 .given .1) in let n = c .before .before .before .count-ways2 .ensures in asks (s .pre) (i .2) (s .pre .1 .1 .1 .0, (c .before .choose3 .ensures .1, high-fits (i .0) (n .0) (s .args .k) (s .pre .1 .1 .1 .1 .1)))
+choose-choose-requires-4 t c κs =
+    let s = c .before .before .before .before .before .before .before .before .before in
+    let i = as-step _ _ _ (c .before .before .before .before .before .before .before .before .read-step .ensures) (c .before .before .before .before .before .before .step4 .given .1) in
+    let n = c .before .before .before .count-ways2 .ensures in
+    asks (s .pre) (i .2) (s .pre .1 .1 .1 .0, (c .before .choose3 .ensures .1, high-fits (i .0) (n .0) (s .args .k) (s .pre .1 .1 .1 .1 .1)))
 
 choose-together-requires : (t : ℕ) → choose-lts.Need-together-requires (told t) (choose-at t) choose.Post
 choose-together-requires t c κs = tt
 
 choose-returns-2 : (t : ℕ) → choose-lts.Need-returns-2 (told t) (choose-at t) choose.Post
-choose-returns-2 t c = let s = c .before .before .before .before in let i = as-step _ _ _ (c .before .before .before .read-step .ensures) (c .before .step .given .1) in (kth-in (i .2) (i .1) (s .args .k), s .pre .1 .1 .1 .1 .0)
+choose-returns-2 t c =
+    let s = c .before .before .before .before in
+    let i = as-step _ _ _ (c .before .before .before .read-step .ensures) (c .before .step .given .1) in
+    (kth-in (i .2) (i .1) (s .args .k), s .pre .1 .1 .1 .1 .0)
 
 choose-returns-3 : (t : ℕ) → choose-lts.Need-returns-3 (told t) (choose-at t) choose.Post
-choose-returns-3 t c = let s = c .before .before .before .before in let i = as-step _ _ _ (c .before .before .before .read-step .ensures) (c .before .step2 .given .1) in (kth-out (i .2) (i .1) (s .args .k), s .pre .1 .1 .1 .1 .0)
+choose-returns-3 t c =
+    let s = c .before .before .before .before in
+    let i = as-step _ _ _ (c .before .before .before .read-step .ensures) (c .before .step2 .given .1) in
+    (kth-out (i .2) (i .1) (s .args .k), s .pre .1 .1 .1 .1 .0)
 
 choose-returns-4 : (t : ℕ) → choose-lts.Need-returns-4 (told t) (choose-at t) choose.Post
-choose-returns-4 t c = let s = c .before .before .before .before .before .before .before .before .before in let i = as-step _ _ _ (c .before .before .before .before .before .before .before .before .read-step .ensures) (c .before .before .before .before .before .before .step3 .given .1) in let n = c .before .before .before .count-ways .ensures in (c .choose2 .ensures .0 ∙ kth-right (i .0) (n .0) (s .args .k) (c .before .before .if1 .left), c .choose2 .ensures .1)
+choose-returns-4 t c =
+    let s = c .before .before .before .before .before .before .before .before .before in
+    let i = as-step _ _ _ (c .before .before .before .before .before .before .before .before .read-step .ensures) (c .before .before .before .before .before .before .step3 .given .1) in
+    let n = c .before .before .before .count-ways .ensures in
+    (c .choose2 .ensures .0 ∙ kth-right (i .0) (n .0) (s .args .k) (c .before .before .if1 .left), c .choose2 .ensures .1)
 
 choose-returns-5 : (t : ℕ) → choose-lts.Need-returns-5 (told t) (choose-at t) choose.Post
-choose-returns-5 t c = let s = c .before .before .before .before .before .before .before .before .before .before .before in let i = as-step _ _ _ (c .before .before .before .before .before .before .before .before .before .before .read-step .ensures) (c .before .before .before .before .before .before .before .before .step4 .given .1) in let n = c .before .before .before .before .before .count-ways2 .ensures in (c .together .ensures ∙ kth-both (i .0) (n .0) (s .args .k) (c .before .before .before .choose3 .ensures .0) (c .before .choose4 .ensures .0), c .before .choose4 .ensures .1)
+choose-returns-5 t c =
+    let s = c .before .before .before .before .before .before .before .before .before .before .before in
+    let i = as-step _ _ _ (c .before .before .before .before .before .before .before .before .before .before .read-step .ensures) (c .before .before .before .before .before .before .before .before .step4 .given .1) in
+    let n = c .before .before .before .before .before .count-ways2 .ensures in
+    (c .together .ensures ∙ kth-both (i .0) (n .0) (s .args .k) (c .before .before .before .choose3 .ensures .0) (c .before .choose4 .ensures .0), c .before .choose4 .ensures .1)
 
 pub +choose-spec : {M : Type 1} → statement M
 +choose-spec = close μ-choose λ t. choose-lts.spec (told t)

@@ -1,12 +1,13 @@
+-- How many ways a row has on a side, by recursion on the row; what is remembered stays right. Assumes nothing.
+use Prim.Native.Nat.{ℕ, _<_}
 use native.Mathlib.Omega.{arith}
 use mathlib.Core.Path.{sym, ap}
-use Rattle.laws.specs.Plans.{count}
-use lib.ListN.{getD}
-use Rattle.choice.proofs.Steps.{as-step, known-right, asks, stored, count-either, count-both, count-fits-word}
 use borrow.Author.Needs.{needs}
-use Prim.Native.Nat.{ℕ, _<_}
 use borrow.Fn.Kinds.{In}
 use borrow.Fn.PlainCycle.{Measures, is, falls, and}
+use lib.ListN.{getD}
+use Rattle.laws.specs.Plans.{count}
+use Rattle.choice.proofs.Steps.{as-step, known-right, asks, stored, count-either, count-both, count-fits-word}
 use Rattle.choice.proofs.count_ways.Reads as count-ways
 use Rattle.choice.proofs.count_ways.Kinds as count-ways-kinds
 use Rattle.choice.proofs.+count_ways.Lts-count_ways as count-ways-lts
@@ -49,7 +50,10 @@ count-ways-element-copy-out-known : (t : ℕ) → count-ways-lts.Need-element-co
 count-ways-element-copy-out-known t c = search needs
 
 count-ways-returns : (t : ℕ) → count-ways-lts.Need-returns (told t) (count-ways-at t) count-ways.Post
-count-ways-returns t c = let s = c .before .before .before in let d = c .before .before in (known-right (s .pre .1 .0) (s .pre .1 .1 .1 .1) (s .pre .1 .1 .0) (s .args .within) (ap (λ (j : ℕ). getD (s .args .counts .now) j 0) (sym (d .slot .ensures .0))) (c .if1 .taken), s .pre .1 .1 .1 .1)
+count-ways-returns t c =
+    let s = c .before .before .before in
+    let d = c .before .before in
+    (known-right (s .pre .1 .0) (s .pre .1 .1 .1 .1) (s .pre .1 .1 .0) (s .args .within) (ap (λ (j : ℕ). getD (s .args .counts .now) j 0) (sym (d .slot .ensures .0))) (c .if1 .taken), s .pre .1 .1 .1 .1)
 
 count-ways-read-step-requires : (t : ℕ) → count-ways-lts.Need-read-step-requires (told t) (count-ways-at t) count-ways.Post
 count-ways-read-step-requires t c κs = let s = c .before .before .before in (s .pre .1 .0, (s .pre .1 .1 .0, s .pre .1 .1 .1 .0))
@@ -70,13 +74,19 @@ count-ways-enum-known-step : (t : ℕ) → count-ways-lts.Need-enum-known-step (
 count-ways-enum-known-step t c = search needs
 
 count-ways-count-ways-requires : (t : ℕ) → count-ways-lts.Need-count-ways-requires (told t) (count-ways-at t) count-ways.Post
-count-ways-count-ways-requires t c κs = let s = c .before .before .before .before .before .before .before .before in asks (s .pre) ((as-step _ _ _ (c .before .before .before .before .read-step .ensures) (c .before .before .step .given .1)) .1) (s .pre .1 .1 .1)
+count-ways-count-ways-requires t c κs =
+    let s = c .before .before .before .before .before .before .before .before in
+    asks (s .pre) ((as-step _ _ _ (c .before .before .before .before .read-step .ensures) (c .before .before .step .given .1)) .1) (s .pre .1 .1 .1)
 
 count-ways-count-ways-requires-2 : (t : ℕ) → count-ways-lts.Need-count-ways-requires-2 (told t) (count-ways-at t) count-ways.Post
-count-ways-count-ways-requires-2 t c κs = let s = c .before .before .before .before .before .before .before .before .before .before in asks (s .pre) ((as-step _ _ _ (c .before .before .before .before .before .before .read-step .ensures) (c .before .before .before .before .step .given .1)) .2) (s .pre .1 .1 .1 .0, c .before .count-ways .ensures .1)
+count-ways-count-ways-requires-2 t c κs =
+    let s = c .before .before .before .before .before .before .before .before .before .before in
+    asks (s .pre) ((as-step _ _ _ (c .before .before .before .before .before .before .read-step .ensures) (c .before .before .before .before .step .given .1)) .2) (s .pre .1 .1 .1 .0, c .before .count-ways .ensures .1)
 
 count-ways-add-remember : (t : ℕ) → count-ways-lts.Need-add-remember (told t) (count-ways-at t) count-ways.Post
-count-ways-add-remember t c = let s = c .before .before .before .before .before .before .before .before .before .before .before .before in count-fits-word (s .pre .1 .0) (s .pre .1 .1 .0) (s .args .within) (count-either ((as-step _ _ _ (c .before .before .before .before .before .before .before .before .read-step .ensures) (c .before .before .before .before .before .before .step .given .1)) .0) (c .before .before .before .count-ways .ensures .0) (c .before .count-ways2 .ensures .0))
+count-ways-add-remember t c =
+    let s = c .before .before .before .before .before .before .before .before .before .before .before .before in
+    count-fits-word (s .pre .1 .0) (s .pre .1 .1 .0) (s .args .within) (count-either ((as-step _ _ _ (c .before .before .before .before .before .before .before .before .read-step .ensures) (c .before .before .before .before .before .before .step .given .1)) .0) (c .before .before .before .count-ways .ensures .0) (c .before .count-ways2 .ensures .0))
 
 count-ways-remember-requires-3 : (t : ℕ) → count-ways-lts.Need-remember-requires-3 (told t) (count-ways-at t) count-ways.Post
 count-ways-remember-requires-3 t c κs = c .before .before .before .before .before .before .before .before .before .before .before .slot .ensures .1
@@ -85,30 +95,44 @@ count-ways-enum-known-step-2 : (t : ℕ) → count-ways-lts.Need-enum-known-step
 count-ways-enum-known-step-2 t c = search needs
 
 count-ways-count-ways-requires-3 : (t : ℕ) → count-ways-lts.Need-count-ways-requires-3 (told t) (count-ways-at t) count-ways.Post
-count-ways-count-ways-requires-3 t c κs = let s = c .before .before .before .before .before .before .before .before in asks (s .pre) ((as-step _ _ _ (c .before .before .before .before .read-step .ensures) (c .before .before .step2 .given .1)) .1) (s .pre .1 .1 .1)
+count-ways-count-ways-requires-3 t c κs =
+    let s = c .before .before .before .before .before .before .before .before in
+    asks (s .pre) ((as-step _ _ _ (c .before .before .before .before .read-step .ensures) (c .before .before .step2 .given .1)) .1) (s .pre .1 .1 .1)
 
 count-ways-count-ways-requires-4 : (t : ℕ) → count-ways-lts.Need-count-ways-requires-4 (told t) (count-ways-at t) count-ways.Post
-count-ways-count-ways-requires-4 t c κs = let s = c .before .before .before .before .before .before .before .before .before .before in asks (s .pre) ((as-step _ _ _ (c .before .before .before .before .before .before .read-step .ensures) (c .before .before .before .before .step2 .given .1)) .2) (s .pre .1 .1 .1 .0, c .before .count-ways3 .ensures .1)
+count-ways-count-ways-requires-4 t c κs =
+    let s = c .before .before .before .before .before .before .before .before .before .before in
+    asks (s .pre) ((as-step _ _ _ (c .before .before .before .before .before .before .read-step .ensures) (c .before .before .before .before .step2 .given .1)) .2) (s .pre .1 .1 .1 .0, c .before .count-ways3 .ensures .1)
 
 count-ways-mul-remember : (t : ℕ) → count-ways-lts.Need-mul-remember (told t) (count-ways-at t) count-ways.Post
-count-ways-mul-remember t c = let s = c .before .before .before .before .before .before .before .before .before .before .before .before in count-fits-word (s .pre .1 .0) (s .pre .1 .1 .0) (s .args .within) (count-both ((as-step _ _ _ (c .before .before .before .before .before .before .before .before .read-step .ensures) (c .before .before .before .before .before .before .step2 .given .1)) .0) (c .before .before .before .count-ways3 .ensures .0) (c .before .count-ways4 .ensures .0))
+count-ways-mul-remember t c =
+    let s = c .before .before .before .before .before .before .before .before .before .before .before .before in
+    count-fits-word (s .pre .1 .0) (s .pre .1 .1 .0) (s .args .within) (count-both ((as-step _ _ _ (c .before .before .before .before .before .before .before .before .read-step .ensures) (c .before .before .before .before .before .before .step2 .given .1)) .0) (c .before .before .before .count-ways3 .ensures .0) (c .before .count-ways4 .ensures .0))
 
 count-ways-remember-requires-4 : (t : ℕ) → count-ways-lts.Need-remember-requires-4 (told t) (count-ways-at t) count-ways.Post
 count-ways-remember-requires-4 t c κs = c .before .before .before .before .before .before .before .before .before .before .before .slot .ensures .1
 
 count-ways-returns-2 : (t : ℕ) → count-ways-lts.Need-returns-2 (told t) (count-ways-at t) count-ways.Post
 unfolding count
-count-ways-returns-2 t c = let s = c .before .before .before .before .before .before .before .before in stored (s .pre .1 .0) (s .pre .1 .1 .1 .1) (s .pre .1 .1 .0) (s .args .within) (c .before .before .before .before .before .before .before .slot .ensures .0) (sym (ap count ((as-step _ _ _ (c .before .before .before .before .read-step .ensures) (c .before .before .enum-told .given .1)) .1))) (c .remember .ensures)
+count-ways-returns-2 t c =
+    let s = c .before .before .before .before .before .before .before .before in
+    stored (s .pre .1 .0) (s .pre .1 .1 .1 .1) (s .pre .1 .1 .0) (s .args .within) (c .before .before .before .before .before .before .before .slot .ensures .0) (sym (ap count ((as-step _ _ _ (c .before .before .before .before .read-step .ensures) (c .before .before .enum-told .given .1)) .1))) (c .remember .ensures)
 
 count-ways-returns-3 : (t : ℕ) → count-ways-lts.Need-returns-3 (told t) (count-ways-at t) count-ways.Post
 unfolding count
-count-ways-returns-3 t c = let s = c .before .before .before .before .before .before .before .before in stored (s .pre .1 .0) (s .pre .1 .1 .1 .1) (s .pre .1 .1 .0) (s .args .within) (c .before .before .before .before .before .before .before .slot .ensures .0) (sym (ap count ((as-step _ _ _ (c .before .before .before .before .read-step .ensures) (c .before .before .enum-told2 .given .1)) .1))) (c .remember2 .ensures)
+count-ways-returns-3 t c =
+    let s = c .before .before .before .before .before .before .before .before in
+    stored (s .pre .1 .0) (s .pre .1 .1 .1 .1) (s .pre .1 .1 .0) (s .args .within) (c .before .before .before .before .before .before .before .slot .ensures .0) (sym (ap count ((as-step _ _ _ (c .before .before .before .before .read-step .ensures) (c .before .before .enum-told2 .given .1)) .1))) (c .remember2 .ensures)
 
 count-ways-returns-4 : (t : ℕ) → count-ways-lts.Need-returns-4 (told t) (count-ways-at t) count-ways.Post
-count-ways-returns-4 t c = let s = c .before .before .before .before .before .before .before .before .before .before .before .before .before in stored (s .pre .1 .0) (c .before .before .count-ways2 .ensures .1) (s .pre .1 .1 .0) (s .args .within) (c .before .before .before .before .before .before .before .before .before .before .before .before .slot .ensures .0) (count-either ((as-step _ _ _ (c .before .before .before .before .before .before .before .before .before .read-step .ensures) (c .before .before .before .before .before .before .before .step .given .1)) .0) (c .before .before .before .before .count-ways .ensures .0) (c .before .before .count-ways2 .ensures .0)) (c .remember3 .ensures)
+count-ways-returns-4 t c =
+    let s = c .before .before .before .before .before .before .before .before .before .before .before .before .before in
+    stored (s .pre .1 .0) (c .before .before .count-ways2 .ensures .1) (s .pre .1 .1 .0) (s .args .within) (c .before .before .before .before .before .before .before .before .before .before .before .before .slot .ensures .0) (count-either ((as-step _ _ _ (c .before .before .before .before .before .before .before .before .before .read-step .ensures) (c .before .before .before .before .before .before .before .step .given .1)) .0) (c .before .before .before .before .count-ways .ensures .0) (c .before .before .count-ways2 .ensures .0)) (c .remember3 .ensures)
 
 count-ways-returns-5 : (t : ℕ) → count-ways-lts.Need-returns-5 (told t) (count-ways-at t) count-ways.Post
-count-ways-returns-5 t c = let s = c .before .before .before .before .before .before .before .before .before .before .before .before .before in stored (s .pre .1 .0) (c .before .before .count-ways4 .ensures .1) (s .pre .1 .1 .0) (s .args .within) (c .before .before .before .before .before .before .before .before .before .before .before .before .slot .ensures .0) (count-both ((as-step _ _ _ (c .before .before .before .before .before .before .before .before .before .read-step .ensures) (c .before .before .before .before .before .before .before .step2 .given .1)) .0) (c .before .before .before .before .count-ways3 .ensures .0) (c .before .before .count-ways4 .ensures .0)) (c .remember4 .ensures)
+count-ways-returns-5 t c =
+    let s = c .before .before .before .before .before .before .before .before .before .before .before .before .before in
+    stored (s .pre .1 .0) (c .before .before .count-ways4 .ensures .1) (s .pre .1 .1 .0) (s .args .within) (c .before .before .before .before .before .before .before .before .before .before .before .before .slot .ensures .0) (count-both ((as-step _ _ _ (c .before .before .before .before .before .before .before .before .before .read-step .ensures) (c .before .before .before .before .before .before .before .step2 .given .1)) .0) (c .before .before .before .before .count-ways3 .ensures .0) (c .before .before .count-ways4 .ensures .0)) (c .remember4 .ensures)
 
 pub +count-ways-spec : {M : Type 1} → statement M
 +count-ways-spec = close μ-count-ways λ t. count-ways-lts.spec (told t)

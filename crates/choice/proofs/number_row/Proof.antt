@@ -7,6 +7,7 @@ use mathlib.Core.Path.{refl, sym, ap, subst, _∙_}
 use borrow.Author.Needs.{needs}
 use Rattle.ground.proofs.Masks.{one-shifted}
 use Rattle.laws.proofs.Expansion.{number-fits}
+use Rattle.table.proofs.Rows.{row-there}
 use Rattle.choice.proofs.Steps.{number-next, numbered-on, numbered-more}
 use Rattle.choice.proofs.number_row.Statement.{statement}
 use Rattle.choice.proofs.number_row.Tie as tie
@@ -18,7 +19,7 @@ few c =
     (number-fits (s .args .table .now) (s .pre .0) (s .args .row) (s .pre .1 .0) (sym (c .before .before .read-row .ensures) ∙ ap some (c .enum-told .given .1)))
 
 read-row-requires : tie.Need-read-row-requires
-read-row-requires c κs = (record { whole = omega (arith, c .pre .0 .whole, c .pre .1 .0) }, c .pre .0 .rows (c .args .row) (c .pre .1 .0))
+read-row-requires c κs = row-there (c .pre .0) (c .pre .1 .0)
 
 enum-told : tie.Need-enum-told
 enum-told c = search needs
@@ -45,16 +46,24 @@ enum-told-4 : tie.Need-enum-told-4
 enum-told-4 c = search needs
 
 returns : tie.Need-returns
-returns c = let s = c .before .before .before in (ap (λ (n : ℕ). n + 1) (s .pre .1 .1 .0) ∙ number-next (s .pre .0) (s .args .row) (c .before .before .read-row .ensures) (c .enum-told .given .1), numbered-more (s .pre .1 .1 .1) (omega (arith, s .pre .0 .not-over, s .pre .1 .0)) (s .pre .1 .1 .0) (one-shifted (s .args .n) (few c)))
+returns c =
+    let s = c .before .before .before in
+    (ap (λ (n : ℕ). n + 1) (s .pre .1 .1 .0) ∙ number-next (s .pre .0) (s .args .row) (c .before .before .read-row .ensures) (c .enum-told .given .1), numbered-more (s .pre .1 .1 .1) (omega (arith, s .pre .0 .not-over, s .pre .1 .0)) (s .pre .1 .1 .0) (one-shifted (s .args .n) (few c)))
 
 returns-2 : tie.Need-returns-2
-returns-2 c = let s = c .before .before .before in (s .pre .1 .1 .0 ∙ sym (add-zero _) ∙ number-next (s .pre .0) (s .args .row) (c .before .before .read-row .ensures) (c .enum-told2 .given .1), numbered-on (s .pre .1 .1 .1) (c .before .before .read-row .ensures) (c .enum-told2 .given .1) refl)
+returns-2 c =
+    let s = c .before .before .before in
+    (s .pre .1 .1 .0 ∙ sym (add-zero _) ∙ number-next (s .pre .0) (s .args .row) (c .before .before .read-row .ensures) (c .enum-told2 .given .1), numbered-on (s .pre .1 .1 .1) (c .before .before .read-row .ensures) (c .enum-told2 .given .1) refl)
 
 returns-3 : tie.Need-returns-3
-returns-3 c = let s = c .before .before .before in (s .pre .1 .1 .0 ∙ sym (add-zero _) ∙ number-next (s .pre .0) (s .args .row) (c .before .before .read-row .ensures) (c .enum-told3 .given .1), numbered-on (s .pre .1 .1 .1) (c .before .before .read-row .ensures) (c .enum-told3 .given .1) refl)
+returns-3 c =
+    let s = c .before .before .before in
+    (s .pre .1 .1 .0 ∙ sym (add-zero _) ∙ number-next (s .pre .0) (s .args .row) (c .before .before .read-row .ensures) (c .enum-told3 .given .1), numbered-on (s .pre .1 .1 .1) (c .before .before .read-row .ensures) (c .enum-told3 .given .1) refl)
 
 returns-4 : tie.Need-returns-4
-returns-4 c = let s = c .before .before .before in (s .pre .1 .1 .0 ∙ sym (add-zero _) ∙ number-next (s .pre .0) (s .args .row) (c .before .before .read-row .ensures) (c .enum-told4 .given .1), numbered-on (s .pre .1 .1 .1) (c .before .before .read-row .ensures) (c .enum-told4 .given .1) refl)
+returns-4 c =
+    let s = c .before .before .before in
+    (s .pre .1 .1 .0 ∙ sym (add-zero _) ∙ number-next (s .pre .0) (s .args .row) (c .before .before .read-row .ensures) (c .enum-told4 .given .1), numbered-on (s .pre .1 .1 .1) (c .before .before .read-row .ensures) (c .enum-told4 .given .1) refl)
 
 pub number-row-spec : {M : Type 1} → statement M
 number-row-spec =

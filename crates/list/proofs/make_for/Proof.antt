@@ -20,13 +20,19 @@ sub-root : tie.Need-sub-root
 sub-root c = let s = c .before .before .before in omega (arith, sound s .some-row)
 
 count-ways-requires : tie.Need-count-ways-requires
-count-ways-requires c κs = let s = c .before .before .before .before .before in (sound s, (omega (arith, sound s .some-row), (c .before .before .number-rows .ensures .1, nothing-remembered (s .args .table .now))))
+count-ways-requires c κs =
+    let s = c .before .before .before .before .before in
+    (sound s, (omega (arith, sound s .some-row), (c .before .before .number-rows .ensures .1, nothing-remembered (s .args .table .now))))
 
 returns : tie.Need-returns
-returns c = let s = c .before .before .before .before .before .before .before in made-many (s .args .table .now) (s .args .w) (s .args .list .now) (s .pre .0) (s .pre .1) (c .before .count-ways .ensures .0 ∙ sym (expansion-ways (s .args .table .now))) (c .if1 .taken)
+returns c =
+    let s = c .before .before .before .before .before .before .before in
+    made-many (s .args .table .now) (s .args .w) (s .args .list .now) (s .pre .0) (s .pre .1) (c .before .count-ways .ensures .0 ∙ sym (expansion-ways (s .args .table .now))) (c .if1 .taken)
 
 make-of-requires : tie.Need-make-of-requires
-make-of-requires c κs = let s = c .before .before .before .before .before .before .before .before .before .before in (s .pre, (c .before .before .before .before .before .before .before .number-rows .ensures .1, (c .before .before .before .before .count-ways .ensures .1, (c .before .before .before .before .count-ways .ensures .0, c .before .before .before .if1 .left))))
+make-of-requires c κs =
+    let s = c .before .before .before .before .before .before .before .before .before .before in
+    (s .pre, (c .before .before .before .before .before .before .before .number-rows .ensures .1, (c .before .before .before .before .count-ways .ensures .1, (c .before .before .before .before .count-ways .ensures .0, c .before .before .before .if1 .left))))
 
 same-length : tie.Need-same-length
 same-length c = search needs

@@ -69,7 +69,9 @@ seen-in-requires : tie.Need-seen-in-requires
 seen-in-requires c κs = sound (c .before .before .before)
 
 measure-requires : tie.Need-measure-requires
-measure-requires c κs = let s = c .before .before .before .before .before .before in (ready (c .before .before .before) (s .pre .1 .1 .0), s .pre .1 .1 .1)
+measure-requires c κs =
+    let s = c .before .before .before .before .before .before in
+    (ready (c .before .before .before) (s .pre .1 .1 .0), s .pre .1 .1 .1)
 
 returns : tie.Need-returns
 returns c =
@@ -78,10 +80,14 @@ returns c =
     (c .before .measure .ensures .0 .exact (c .if1 .taken) ∙ all-words (c .before .before .before .before)) (c .if1 .taken)
 
 write-products-requires : tie.Need-write-products-requires
-write-products-requires c κs = let s = c .before .before .before .before .before .before .before .before .before .before .before in (ready (c .before .before .before .before .before .before .before .before) (c .before .before .before .before .measure .ensures .1), (s .pre .1 .1 .1, c .before .before .before .before .measure .ensures .0 .enough (c .before .before .before .if1 .left)))
+write-products-requires c κs =
+    let s = c .before .before .before .before .before .before .before .before .before .before .before in
+    (ready (c .before .before .before .before .before .before .before .before) (c .before .before .before .before .measure .ensures .1), (s .pre .1 .1 .1, c .before .before .before .before .measure .ensures .0 .enough (c .before .before .before .if1 .left)))
 
 write-header-requires : tie.Need-write-header-requires
-write-header-requires c κs = let s = c .before .before .before .before .before .before .before .before .before .before .before .before .before .before .before in (s .pre .0 .1, omega (arith, c .before .before .before .before .before .before .before .before .measure .ensures .0 .enough (c .before .before .before .before .before .before .before .if1 .left), ap length (c .before .before .before .write-products .ensures .1), length-sets (s .args .list .now) 8 (flatMap wordsOf (all (c .before .before .before .before .before .before .before .before .before .before .before)))))
+write-header-requires c κs =
+    let s = c .before .before .before .before .before .before .before .before .before .before .before .before .before .before .before in
+    (s .pre .0 .1, omega (arith, c .before .before .before .before .before .before .before .before .measure .ensures .0 .enough (c .before .before .before .before .before .before .before .if1 .left), ap length (c .before .before .before .write-products .ensures .1), length-sets (s .args .list .now) 8 (flatMap wordsOf (all (c .before .before .before .before .before .before .before .before .before .before .before)))))
 
 mul-t13 : tie.Need-mul-t13
 mul-t13 c = record { fits = omega (arith, c .before .before .before .before .before .before .write-products .ensures .0, all-few (c .before .before .before .before .before .before .before .before .before .before .before .before .before .before)) }

@@ -19,7 +19,10 @@ add-most : tie.Need-add-most
 add-most c = search needs
 
 returns : tie.Need-returns
-returns c = let s = c .before in let few = listed-length (s .args .meets .now) (s .args .primitives) (s .args .seen) (rootPlan (s .args .table .now)) (s .args .ways) (omega (arith, s .pre .1 .0)) in (record { enough = λ h. omega (arith, few, h); exact = λ h. absurd (omega (arith, h, c .if1 .taken)) }, s .pre .0 .remembered)
+returns c =
+    let s = c .before in
+    let few = listed-length (s .args .meets .now) (s .args .primitives) (s .args .seen) (rootPlan (s .args .table .now)) (s .args .ways) (omega (arith, s .pre .1 .0)) in
+    (record { enough = λ h. omega (arith, few, h); exact = λ h. absurd (omega (arith, h, c .if1 .taken)) }, s .pre .0 .remembered)
 
 tally-requires : tie.Need-tally-requires
 tally-requires c κs = search needs

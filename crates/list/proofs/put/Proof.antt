@@ -48,7 +48,9 @@ add-result c = search needs
 
 returns : tie.Need-returns
 unfolding flatMap
-returns c = let s = c .before .before in (omega (arith, much (c .enum-told .given .1)), ap (λ (z : Gain). sets (s .args .list .now) (8 + 2 * s .args .n) (flatMap wordsOf (gained z))) (sym (c .enum-told .given .1)))
+returns c =
+    let s = c .before .before in
+    (omega (arith, much (c .enum-told .given .1)), ap (λ (z : Gain). sets (s .args .list .now) (8 + 2 * s .args .n) (flatMap wordsOf (gained z))) (sym (c .enum-told .given .1)))
 
 same-length : tie.Need-same-length
 same-length c = search needs

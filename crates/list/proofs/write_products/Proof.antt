@@ -20,10 +20,15 @@ abbrev μ-loop : tie.MeasureT-loop
 
 loop-holds : tie.Need-loop-holds Inv-loop μ-loop
 unfolding flatMap
-loop-holds c = let s = c .before .args in let none = listed-none (s .meets .now) (s .primitives) (s .seen) (rootPlan (s .table .now)) in (omega arith, (sym (ap length none), (sym (ap (λ (ps : List Product). sets (s .list .now) 8 (flatMap wordsOf ps)) none), c .before .pre .0 .remembered)))
+loop-holds c =
+    let s = c .before .args in
+    let none = listed-none (s .meets .now) (s .primitives) (s .seen) (rootPlan (s .table .now)) in
+    (omega arith, (sym (ap length none), (sym (ap (λ (ps : List Product). sets (s .list .now) 8 (flatMap wordsOf ps)) none), c .before .pre .0 .remembered)))
 
 try-way-requires : tie.Need-try-way-requires Inv-loop μ-loop
-try-way-requires c κs = let s = c .before .before .before .before in (ready-on (s .pre .0) (c .before .before .loop .inv .1 .1 .1), omega (arith, s .pre .1 .0 .0, c .before .loop-test .taken))
+try-way-requires c κs =
+    let s = c .before .before .before .before in
+    (ready-on (s .pre .0) (c .before .before .loop .inv .1 .1 .1), omega (arith, s .pre .1 .0 .0, c .before .loop-test .taken))
 
 put-requires : tie.Need-put-requires Inv-loop μ-loop
 put-requires c κs =
@@ -36,7 +41,9 @@ put-requires c κs =
     omega (arith, more, most, all, same, s .pre .1 .1)
 
 add-k : tie.Need-add-k Inv-loop μ-loop
-add-k c = let s = c .before .before .before .before .before .before .before .before .before in record { fits = omega (arith, c .before .before .before .before .before .before .before .loop .inv .0, s .pre .1 .0 .1) }
+add-k c =
+    let s = c .before .before .before .before .before .before .before .before .before in
+    record { fits = omega (arith, c .before .before .before .before .before .before .before .loop .inv .0, s .pre .1 .0 .1) }
 
 loop-less : tie.Need-loop-less Inv-loop μ-loop
 loop-less c = omega (arith, c .before .before .before .before .before .before .loop-test .taken)
@@ -55,7 +62,10 @@ loop-again c =
     )
 
 same-length : tie.Need-same-length Inv-loop μ-loop
-same-length c = let s = c .before .before .before in let l = c .before .loop in ap length (l .inv .1 .1 .0) ∙ length-sets (s .args .list .now) 8 (flatMap wordsOf (listed (s .args .meets .now) (s .args .primitives) (s .args .seen) (rootPlan (s .args .table .now)) (l .k)))
+same-length c =
+    let s = c .before .before .before in
+    let l = c .before .loop in
+    ap length (l .inv .1 .1 .0) ∙ length-sets (s .args .list .now) 8 (flatMap wordsOf (listed (s .args .meets .now) (s .args .primitives) (s .args .seen) (rootPlan (s .args .table .now)) (l .k)))
 
 returns : tie.Need-returns Inv-loop μ-loop
 returns c =

@@ -12,7 +12,8 @@ use Rattle.rules.specs.Products.{boxOf}
 use Rattle.rules.specs.Table.{solidOf, primitivesBefore}
 use Rattle.laws.proofs.Trees.{read-right}
 use Rattle.reach.specs.Gathering.{withOne, Gathers}
-use Rattle.reach.proofs.Gathering.{row-there, number-right, row-more, none-more, gathers-more}
+use Rattle.table.proofs.Rows.{row-there}
+use Rattle.reach.proofs.Gathering.{number-right, row-more, none-more, gathers-more}
 use Rattle.reach.proofs.gather.Statement.{statement}
 use Rattle.reach.proofs.gather.Tie as tie
 

@@ -12,7 +12,8 @@ use Rattle.rules.specs.Table.{solidOf, primitivesBefore, primitives}
 use Rattle.laws.specs.Reach.{sharing}
 use Rattle.laws.proofs.Trees.{read-right}
 use Rattle.reach.specs.Gathering.{Meets}
-use Rattle.reach.proofs.Gathering.{row-there, number-right, row-more, none-more, meets-more}
+use Rattle.table.proofs.Rows.{row-there}
+use Rattle.reach.proofs.Gathering.{number-right, row-more, none-more, meets-more}
 use Rattle.reach.proofs.meet_row.Statement.{statement}
 use Rattle.reach.proofs.meet_row.Tie as tie
 

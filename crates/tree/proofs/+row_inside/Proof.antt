@@ -16,6 +16,7 @@ use Rattle.rules.specs.Table.{rowCount, primitivesBefore}
 use Rattle.rules.specs.Tree.{Tree, grown, treeAt}
 use Rattle.rules.specs.Inside.{inside}
 use Rattle.laws.specs.Sound.{RowRight, Sound}
+use Rattle.table.proofs.Rows.{row-there}
 use Rattle.laws.proofs.Trees.{read-right, read-tree}
 use Rattle.tree.proofs.row_inside.Reads as row-inside
 use Rattle.tree.proofs.row_inside.Kinds as row-inside-kinds
@@ -56,7 +57,7 @@ module _ (t : ℕ) (c : row-inside-lts.After-read-row (told t) (row-inside-at t)
   answers h = h ∙ sym (ap (λ (T : Tree). inside T (start .args .p)) (read-tree (start .pre .1 .0) (start .pre .1 .1 .0) (c .read-row .ensures) g))
 
 row-inside-read-row-requires : (t : ℕ) → row-inside-lts.Need-read-row-requires (told t) (row-inside-at t) row-inside.Post
-row-inside-read-row-requires t c κs = let p = c .pre .1 in (record { whole = omega (arith, p .0 .whole, p .1 .0) }, p .0 .rows (c .args .row) (p .1 .0))
+row-inside-read-row-requires t c κs = row-there (c .pre .1 .0) (c .pre .1 .1 .0)
 
 row-inside-enum-known-reads : (t : ℕ) → row-inside-lts.Need-enum-known-reads (told t) (row-inside-at t) row-inside.Post
 row-inside-enum-known-reads t c = search needs

@@ -1,0 +1,63 @@
+-- A window that is not refused: its bounds are in range, and it is not empty. Assumes nothing.
+use Prim.Native.Nat.{ℕ}
+use mathlib.Core.Bool.{true, false, _&&_, _||_}
+use mathlib.Core.List.{List, [], _∷_}
+use mathlib.Core.Option.{Option, none}
+use mathlib.Core.Path.{_≡_, refl, ap₂}
+use borrow.Author.Tests.{leb-true, le-ltb}
+use lib.IntN.{ℤ, pos, negsuc}
+use lib.Signed.{leZ, ltZ}
+use Rattle.ground.specs.Lists.{firstOf}
+use Rattle.ground.proofs.Branches.{false-true, and-left, and-right}
+use Rattle.ground.proofs.Counting.{first-kept}
+use Rattle.rules.specs.declared.Refusal.{Refusal}
+use Rattle.rules.specs.declared.Window.{Window}
+use Rattle.rules.specs.Ranges.{Span, within, columns, codes, frames}
+use Rattle.rules.specs.Boxes.{windowBox, empty}
+use Rattle.rules.specs.Refusals.{refuseUnless}
+use Rattle.rules.specs.ListCalls.{windowRefusal}
+use Rattle.laws.proofs.Soundness.{unless-kept}
+
+-- the two bounds of an axis
+pub record Bounds (s : Span) (lo hi : ℤ) : Type 0 where
+  pub lo-in : within s lo ≡ true
+  pub hi-in : within s hi ≡ true
+  pub rising : leZ lo hi ≡ true
+
+pub record RightWindow (w : Window) : Type 0 where
+  pub x : Bounds columns (w .xlo) (w .xhi)
+  pub y : Bounds codes (w .ylo) (w .yhi)
+  pub z : Bounds frames (w .zlo) (w .zhi)
+
+axis-right : (s : Span) (lo hi : ℤ) (j k : ℕ) (others : List (Option Refusal))
+    → firstOf (refuseUnless (within s lo) 6 j ∷ refuseUnless (within s hi && leZ lo hi) 6 k ∷ others) ≡ none
+    → Bounds s lo hi × (firstOf others ≡ none)
+axis-right s lo hi j k others e =
+    let bounds = first-kept (refuseUnless (within s lo) 6 j) (refuseUnless (within s hi && leZ lo hi) 6 k ∷ others) e in
+    let upper = first-kept (refuseUnless (within s hi && leZ lo hi) 6 k) others (bounds .1) in
+    let both = unless-kept (within s hi && leZ lo hi) 6 k (upper .0) in (
+      record {
+        lo-in = unless-kept (within s lo) 6 j (bounds .0);
+        hi-in = and-left (within s hi) (leZ lo hi) both;
+        rising = and-right (within s hi) (leZ lo hi) both;
+      },
+      upper .1,
+    )
+
+pub window-right : (w : Window) → windowRefusal w ≡ none → RightWindow w
+window-right w e =
+    let x = axis-right columns (w .xlo) (w .xhi) 0 1 _ e in
+    let y = axis-right codes (w .ylo) (w .yhi) 2 3 _ (x .1) in
+    let z = axis-right frames (w .zlo) (w .zhi) 4 5 [] (y .1) in
+    record { x = x .0; y = y .0; z = z .0 }
+
+not-past : (a b : ℤ) → leZ a b ≡ true → ltZ b a ≡ false
+not-past (pos a) (pos b) h = le-ltb b a (leb-true a b h)
+not-past (pos a) (negsuc b) h = false-true h
+not-past (negsuc a) (pos b) h = refl
+not-past (negsuc a) (negsuc b) h = le-ltb a b (leb-true b a h)
+
+pub window-filled : (w : Window) → windowRefusal w ≡ none → empty (windowBox w) ≡ false
+window-filled w e =
+    let r = window-right w e in
+    ap₂ _||_ (not-past (w .xlo) (w .xhi) (r .x .rising)) (ap₂ _||_ (not-past (w .ylo) (w .yhi) (r .y .rising)) (not-past (w .zlo) (w .zhi) (r .z .rising)))
