@@ -32,7 +32,7 @@ use Rattle.laws.proofs.Trees.{tree-row}
 -- ---- lists and counts
 
 -- what the rows up to one give, from what those before it give
-next-row : {B : Type 0} (f : ℕ → List B) (row : ℕ) → flatMap f (below (suc row)) ≡ flatMap f (below row) ++ f row
+pub next-row : {B : Type 0} (f : ℕ → List B) (row : ℕ) → flatMap f (below (suc row)) ≡ flatMap f (below row) ++ f row
 next-row f row = ap (λ (k : ℕ). flatMap f (below k)) (sym (add-one row)) ∙ flatMap-next f row
 
 rising : (g : ℕ → ℕ) → ((k : ℕ) → g k ≤ g (suc k)) → (a b : ℕ) → a ≤ b → g a ≤ g b

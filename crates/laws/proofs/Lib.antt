@@ -21,3 +21,6 @@ pub mod Windows
 pub mod Words
 pub mod Listed
 pub mod Promise
+pub mod Agreement
+pub mod Placing
+pub mod Made
