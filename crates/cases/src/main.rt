@@ -1,4 +1,6 @@
 // Numbered cases, edges and refusals through the public calls: a line for each, with what was asked and what the answer tells.
+mod answers;
+
 use rules::Checked;
 use rules::Located;
 use rules::Place;
@@ -46,10 +48,7 @@ fn check(name: &[u8], table: &[i32]) {
     }
 }
 
-fn point(name: &[u8], table: &[i32], x: i32, y: i32, z: i32) {
-    io::write_all(1, name);
-    io::write_all(1, b"\t");
-    let answer = zone::tree_point(table, Point { x, y, z });
+fn located(answer: Located) {
     match answer {
         Located::Inside => {
             io::write_all(1, b"inside\n");
@@ -61,10 +60,13 @@ fn point(name: &[u8], table: &[i32], x: i32, y: i32, z: i32) {
     }
 }
 
-fn search(name: &[u8], table: &[i32], samples: &[i16], first: i32, frame: i32) {
+fn point(name: &[u8], table: &[i32], x: i32, y: i32, z: i32) {
     io::write_all(1, name);
     io::write_all(1, b"\t");
-    let answer = zone::tree_search(table, samples, Place { first, frame });
+    located(zone::tree_point(table, Point { x, y, z }));
+}
+
+fn searched(answer: Searched) {
     match answer {
         Searched::Clear => {
             io::write_all(1, b"clear\n");
@@ -78,6 +80,12 @@ fn search(name: &[u8], table: &[i32], samples: &[i16], first: i32, frame: i32) {
         }
         Searched::Refused(r) => refused(r),
     }
+}
+
+fn search(name: &[u8], table: &[i32], samples: &[i16], first: i32, frame: i32) {
+    io::write_all(1, name);
+    io::write_all(1, b"\t");
+    searched(zone::tree_search(table, samples, Place { first, frame }));
 }
 
 // A word of the list is printed; of a word after it, whether it is as it was.
@@ -766,4 +774,5 @@ fn main() {
     windows();
     rooms();
     most_primitives();
+    answers::all();
 }

@@ -63,6 +63,14 @@ pub fn check_point(w: Window, p: Point) -> Checked
     )
 }
 
+// A point is in a window.
+pub fn in_window(w: Window, p: Point) -> bool
+    ensures { λ r. ⌜ r ≡ holds (windowBox w) p ⌝ }
+{
+    ((w.xlo <= p.x) & (p.x <= w.xhi))
+        & (((w.ylo <= p.y) & (p.y <= w.yhi)) & ((w.zlo <= p.z) & (p.z <= w.zhi)))
+}
+
 // Every column from `first` on is in range.
 fn columns_right(first: i32, samples: usize) -> bool
     requires { ⌜ (1 ≤ samples) × (samples ≤ 65536) ⌝ }

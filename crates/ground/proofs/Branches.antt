@@ -1,7 +1,8 @@
--- What a branch tells of `p && q` and `p || q`, and of a choice. Assumes nothing.
+-- What a branch tells of `p && q` and `p || q`, of a choice, and of what a test says. Assumes nothing.
 use mathlib.Core.Bool.{Bool, true, false, _&&_, _||_}
 use mathlib.Core.Path.{_≡_, refl, sym, subst}
 use lib.Dec.{T}
+use Rattle.ground.specs.Tests.{Says}
 
 pub false-true {ℓ} : {A : Type ℓ} → false ≡ true → A
 false-true e = absurd (subst T (sym e) tt)
@@ -27,3 +28,12 @@ and-left false q h = h
 pub and-right : (p q : Bool) → (p && q) ≡ true → q ≡ true
 and-right true q h = h
 and-right false q h = false-true h
+
+-- what a test says, either way
+pub says-holds : (t : Bool) (X : Type 0) → Says t X → t ≡ true → X
+says-holds true X s h = s
+says-holds false X s h = false-true h
+
+pub holds-said : (t : Bool) (X : Type 0) → Says t X → X → t ≡ true
+holds-said true X s x = refl
+holds-said false X s x = absurd (s x)

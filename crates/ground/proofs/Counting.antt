@@ -4,13 +4,13 @@ use native.Mathlib.Nat.{sub-zero, add-zero, zero-add}
 use native.Mathlib.Decide.{decLe}
 use native.Mathlib.Numerals.{add-one}
 use native.Mathlib.Omega.{arith}
-use mathlib.Core.Bool.{Bool, true, false, _&&_}
+use mathlib.Core.Bool.{Bool, true, false, _&&_, _||_}
 use mathlib.Core.List.{List, [], _∷_, _++_, map, flatMap, append-nil}
 use mathlib.Core.Option.{Option, none, some}
-use mathlib.Core.Path.{_≡_, refl, sym, ap, _∙_}
+use mathlib.Core.Path.{_≡_, refl, sym, ap, subst, _∙_}
 use Rattle.ground.proofs.Branches.{and-left, and-right}
 use Rattle.ground.proofs.Lists.{flatMap-append}
-use Rattle.ground.specs.Lists.{from, rest, below, all, orElse, firstOf, rulings}
+use Rattle.ground.specs.Lists.{All, from, rest, below, all, any, orElse, firstOf, rulings}
 
 pub rest-cons : (k n : ℕ) → k < n → rest k n ≡ k ∷ rest (k + 1) n
 unfolding from
@@ -42,6 +42,13 @@ from-last start n = ap (from start) (add-one n) ∙ go start n
 
 pub below-last : (n : ℕ) → below (n + 1) ≡ below n ++ (n ∷ [])
 below-last n = from-last 0 n ∙ ap (λ (k : ℕ). below n ++ (k ∷ [])) (zero-add n)
+
+pub numbers-below : (start n : ℕ) → All (λ k. k < start + n) (from start n)
+unfolding from
+numbers-below start zero = tt
+numbers-below start (suc n) =
+    let on : suc start + n ≡ start + suc n = omega arith in
+    (omega arith, subst (λ (m : ℕ). All (λ k. k < m) (from (suc start) n)) on (numbers-below (suc start) n))
 
 -- what the numbers up to n give, from what those below it give
 pub flatMap-next : {A : Type 0} (f : ℕ → List A) (n : ℕ) → flatMap f (below (n + 1)) ≡ flatMap f (below n) ++ f n
@@ -76,6 +83,18 @@ module _ (test : ℕ → Bool) (k n : ℕ) where
   pub all-done : n ≤ k → all test (rest k n) ≡ true
   unfolding all
   all-done l = ap (all test) (rest-done k n l)
+
+  pub any-yes : k < n → test k ≡ true → any test (rest k n) ≡ true
+  unfolding any
+  any-yes l h = ap (any test) (rest-cons k n l) ∙ ap (λ (b : Bool). b || any test (rest (k + 1) n)) h
+
+  pub any-no : k < n → test k ≡ false → any test (rest k n) ≡ any test (rest (k + 1) n)
+  unfolding any
+  any-no l h = ap (any test) (rest-cons k n l) ∙ ap (λ (b : Bool). b || any test (rest (k + 1) n)) h
+
+  pub any-done : n ≤ k → any test (rest k n) ≡ false
+  unfolding any
+  any-done l = ap (any test) (rest-done k n l)
 
 pub or-else-none : {A : Type 0} (x : Option A) → x ≡ orElse x none
 or-else-none none = refl

@@ -4,5 +4,7 @@ pub mod Signed
 pub mod Branches
 pub mod Num
 pub mod Counting
+pub mod Pieces
 pub mod Order
 pub mod Masks
+pub mod Writes

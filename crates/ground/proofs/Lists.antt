@@ -1,13 +1,13 @@
 -- Laws of lists: a property of every element, and one list put after another. Assumes nothing.
 use Prim.Native.Nat.{ℕ, zero, suc, _<_}
 use native.Mathlib.Nat.{not-suc-le-zero, le-of-suc-le-suc}
-use mathlib.Core.Bool.{Bool, true, false}
+use mathlib.Core.Bool.{Bool, true, false, _||_}
 use mathlib.Core.Option.{none, some}
-use mathlib.Core.Path.{_≡_, refl, sym, ap, subst, _∙_}
+use mathlib.Core.Path.{_≡_, refl, sym, ap, ap₂, subst, _∙_}
 use mathlib.Core.List.{List, [], _∷_, _++_, map, flatMap, append-assoc}
 use lib.ListN.{length, getD}
 use Rattle.ground.specs.Tests.{if_then_else_}
-use Rattle.ground.specs.Lists.{All, findIf}
+use Rattle.ground.specs.Lists.{All, any, findIf}
 
 module _ {A : Type 0} where
   pub all-append : (P : A → Type 0) (xs ys : List A) → All P xs → All P ys → All P (xs ++ ys)
@@ -55,3 +55,15 @@ module _ {A B : Type 0} where
   unfolding flatMap
   flatMap-append f [] ys = refl
   flatMap-append f (x ∷ xs) ys = ap (λ (zs : List B). f x ++ zs) (flatMap-append f xs ys) ∙ sym (append-assoc (f x) (flatMap f xs) (flatMap f ys))
+
+-- ---- some element passes a test
+
+pub any-mapped : {A B : Type 0} (test : B → Bool) (f : A → B) (xs : List A) → any test (map f xs) ≡ any (λ x. test (f x)) xs
+unfolding any
+any-mapped test f [] = refl
+any-mapped test f (x ∷ xs) = ap (λ (b : Bool). test (f x) || b) (any-mapped test f xs)
+
+pub any-same : {A : Type 0} (p q : A → Bool) (xs : List A) → All (λ x. p x ≡ q x) xs → any p xs ≡ any q xs
+unfolding any
+any-same p q [] h = refl
+any-same p q (x ∷ xs) h = ap₂ _||_ (h .0) (any-same p q xs (h .1))

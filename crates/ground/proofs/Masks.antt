@@ -6,7 +6,6 @@ use native.Mathlib.Numerals.{one-add}
 use native.Mathlib.Omega.{arith}
 use mathlib.Core.Bool as bool
 use mathlib.Core.Bool.{Bool, true, false, _&&_, _||_, or-true, or-false, and-false, and-or-distrib-left}
-use mathlib.Core.Logic.{_⊎_, inl, inr}
 use mathlib.Core.Path.{_≡_, refl, sym, ap, ap₂, _∙_}
 use lib.Arith.{bin-ind, digits-mod}
 use lib.Bits as bits
@@ -142,13 +141,6 @@ module _ (a b : ℕ) where
 
   pub has-right : (i : ℕ) → has i b ≡ true → has i (bitOr a b) ≡ true
   has-right i p = has-or i a b ∙ ap (λ (x : Bool). has i a || x) p ∙ or-true (has i a)
-
-  pub has-either : (i : ℕ) → has i (bitOr a b) ≡ true → (has i a ≡ true) ⊎ (has i b ≡ true)
-  has-either i h = go (has i a) (has i b) (sym (has-or i a b) ∙ h)
-    where
-      go : (x y : Bool) → (x || y) ≡ true → (x ≡ true) ⊎ (y ≡ true)
-      go true y e = inl refl
-      go false y e = inr e
 
 pub within-cut : (a b r : ℕ) → Within a b → Within (bitAnd a r) b
 within-cut a b r h = has-within (bitAnd a r) b (λ i p. within-has a b h i (both-has a r i p .0))

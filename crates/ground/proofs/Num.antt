@@ -16,7 +16,7 @@ use mir.ValLaws.{toZ-ofZ, toZ-pos}
 
 -- ---- how far from 0
 
-abs-neg : (z : ℤ) → natAbs (negℤ z) ≡ natAbs z
+pub abs-neg : (z : ℤ) → natAbs (negℤ z) ≡ natAbs z
 abs-neg (pos zero) = refl
 abs-neg (pos (suc n)) = refl
 abs-neg (negsuc n) = refl

@@ -191,12 +191,9 @@ module _ (solids : List Primitive) (p : Point) where
       ∙ sym (not-and (inside left p) (not (inside right p)) ∙ ap (λ (b : Bool). not (inside left p) || b) (Bool·not-not (inside right p)))
 
   module _ (tree : Tree) (placed : Placed solids tree) where
-    -- a point is inside a tree just if it is inside one of the choices in it, and outside just if inside one of the choices out of it
+    -- a point is inside a tree just if it is inside one of the choices in it
     pub choices-inside : inside tree p ≡ any (λ c. insideProduct solids c p) (choices inOf tree)
     choices-inside = sym (side-agrees inOf tree placed)
-
-    pub choices-outside : not (inside tree p) ≡ any (λ c. insideProduct solids c p) (choices outOf tree)
-    choices-outside = sym (side-agrees outOf tree placed)
 
 -- ---- a primitive and its box
 

@@ -24,3 +24,10 @@ pub mod Promise
 pub mod Agreement
 pub mod Placing
 pub mod Made
+pub mod Pruning
+pub mod Answering
+pub mod Strangers
+pub mod SoundLists
+pub mod Held
+pub mod TextLengths
+pub mod Texts

@@ -15,6 +15,7 @@ use lib.Pow.{pow-pos}
 use lib.Signed.{leZ}
 use Rattle.ground.specs.Lists.{All, from, below, orElse, firstOf}
 use Rattle.ground.proofs.Branches.{false-true, and-left, and-right}
+use Rattle.ground.proofs.Counting.{numbers-below}
 use Rattle.ground.proofs.Lists.{all-flatMap}
 use Rattle.ground.proofs.Masks.{has, Within, within-self, within-left, within-has, has-within, has-both, both-has, and-assoc, and-or, or-and}
 use Rattle.rules.specs.declared.Product.{Product}
@@ -78,10 +79,7 @@ module _ (t : List ℤ) (w : Window) (fine : windowRefusal w ≡ none) (rest : L
       }
 
 module _ (t : List ℤ) (w : Window) (rest : List ℕ) where
-  pub made-primitives : primitiveCount (zoneList t w ++ rest) ≡ length (primitives t)
-  unfolding zoneList
-  made-primitives = refl
-
+  -- it has as many primitives as the table
   pub made-accepted : primitivesRefusal (primitives t) (zoneList t w ++ rest) ≡ none
   unfolding zoneList
   made-accepted = rw (eq-eqb (length (primitives t)) (length (primitives t)) refl) refl
@@ -219,13 +217,6 @@ all-pass (x ∷ xs) k = one-passes x xs (k .0) (all-pass xs (k .1))
 
 unless-none : (b : Bool) (n v : ℕ) → b ≡ true → refuseUnless b n v ≡ none
 unless-none b n v e = ap (λ (x : Bool). refuseUnless x n v) e
-
-numbers-below : (start n : ℕ) → All (λ k. k < start + n) (from start n)
-unfolding from
-numbers-below start zero = tt
-numbers-below start (suc n) =
-    let on : suc start + n ≡ start + suc n = omega arith in
-    (omega arith, subst (λ (m : ℕ). All (λ k. k < m) (from (suc start) n)) on (numbers-below (suc start) n))
 
 bounds-pass : (list : List ℕ) (i : ℕ) (lo hi : ℤ) → Bounds columns lo hi → word list i ≡ raised 32768 lo → word list (i + 1) ≡ raised 32768 hi
     → (others : List (Option Refusal)) → firstOf others ≡ none → firstOf (boundsRefusals list i 32768 columns ++ others) ≡ none

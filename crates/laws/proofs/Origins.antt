@@ -97,11 +97,6 @@ module _ (alive : ℕ → Bool) (reach : ℕ → ℕ) (cs : List Product) (d : P
     first = place-first;
   }
 
-  -- each product of the list is of a choice that stays
-  pub listing-from : (j : ℕ) → j < length (listing alive reach cs)
-      → (i : ℕ) × (i < length cs) × (alive (getD cs i d .plain) ≡ true) × (getD (listing alive reach cs) j d ≡ pruned alive reach (getD cs i d))
-  listing-from j l = let o = listing-order in (o .place j, o .in-list j l, o .stays j l, o .gives j l)
-
   -- no product stands there twice
   pub listing-distinct : (i j : ℕ) → i < j → j < length (listing alive reach cs)
       → getD (listing alive reach cs) i d ≡ getD (listing alive reach cs) j d → ⊥

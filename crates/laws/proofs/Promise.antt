@@ -72,7 +72,7 @@ products-are-listing t w S e =
 module _ (t : List ℤ) (w : Window) (before after : List ℕ) (r : Written) (made : ListMade t w before after r) where
   -- nothing is refused: the buffer holds the products of the choices, and what lies beyond them stays
   module _ (fine : makeRefusal t w (length before) ≡ none) where
-    is-over : after ≡ over (zoneList t w) before
+    pub is-over : after ≡ over (zoneList t w) before
     is-over = made .buffer ∙ ap (λ (x : Option Refusal). leave x (zoneList t w) before) fine
 
     pub list-right : Listed t w after

@@ -3,7 +3,7 @@ use Prim.Native.Nat.{ℕ, zero, suc, _+_, _*_, _/_, _%_, _^_, _≤_, _<_}
 use native.Mathlib.Nat.{not-suc-le-zero, le-of-suc-le-suc, one-mul, pow-suc}
 use native.Mathlib.Numerals.{add-one}
 use native.Mathlib.Omega.{arith}
-use mathlib.Core.Bool.{Bool, true, false, not, _&&_, and-assoc, and-comm}
+use mathlib.Core.Bool.{Bool, true, false, not, _&&_, _||_, and-assoc, and-comm}
 use mathlib.Core.List.{List, [], _∷_, _++_, map}
 use mathlib.Core.Path.{_≡_, refl, sym, ap, ap₂, _∙_}
 use borrow.Author.Tests.{eqb-true, eqb-false, eq-eqb, ne-eqb}
@@ -13,7 +13,7 @@ use lib.ListN.{length, getD, take, drop}
 use lib.Pow.{shr-shr}
 use lib.Seq.{take-suc, drop-cons, drop-length, length-take-le}
 use Rattle.ground.specs.Bits.{odd, selected, placesOf}
-use Rattle.ground.specs.Lists.{All, all, keepIf}
+use Rattle.ground.specs.Lists.{All, all, any, keepIf}
 use Rattle.ground.specs.Tests.{if_then_else_}
 use Rattle.ground.proofs.Lists.{all-map}
 use Rattle.ground.proofs.Masks.{has, has-and, has-none, has-shifted, same-places}
@@ -33,15 +33,15 @@ use Rattle.laws.proofs.Spaces.{share-all, left-pairwise}
 abbrev digit : Bool → ℕ
 digit b = if b then 1 else 0
 
-digit-odd : (b : Bool) (n : ℕ) → odd (digit b + 2 * n) ≡ b
+pub digit-odd : (b : Bool) (n : ℕ) → odd (digit b + 2 * n) ≡ b
 digit-odd true n = eq-eqb ((1 + 2 * n) % 2) 1 (omega arith)
 digit-odd false n = ne-eqb ((0 + 2 * n) % 2) 1 (λ e. omega arith)
 
-digit-half : (b : Bool) (n : ℕ) → (digit b + 2 * n) / 2 ≡ n
+pub digit-half : (b : Bool) (n : ℕ) → (digit b + 2 * n) / 2 ≡ n
 digit-half true n = omega arith
 digit-half false n = omega arith
 
-and-digit : (c : ℕ) (b : Bool) (n : ℕ) → bitAnd c (digit b + 2 * n) ≡ digit (odd c && b) + 2 * bitAnd (c / 2) n
+pub and-digit : (c : ℕ) (b : Bool) (n : ℕ) → bitAnd c (digit b + 2 * n) ≡ digit (odd c && b) + 2 * bitAnd (c / 2) n
 unfolding has
 and-digit c b n = same-places _ _ at
   where
@@ -105,8 +105,8 @@ module _ {A : Type 0} (test : A → Bool) where
       above true k n h = ap (bitOr n) (sym (one-mul (2 ^ k))) ∙ or-shifted-r 1 k n h ∙ ap (λ (m : ℕ). m + n) (one-mul (2 ^ k))
       above false k n h = or-zero-r n ∙ omega arith
 
-  -- a set lies within the places just if the test holds of what it selects
-  chosen-places : (xs : List A) (chosen : ℕ) → chosen < 2 ^ length xs → eqb (bitAnd chosen (placesOf test xs)) chosen ≡ all test (selected chosen xs)
+  -- a set lies within the places just if the test holds of all that it selects
+  pub chosen-places : (xs : List A) (chosen : ℕ) → chosen < 2 ^ length xs → eqb (bitAnd chosen (placesOf test xs)) chosen ≡ all test (selected chosen xs)
   unfolding placesOf selected all
   chosen-places [] chosen h = eq-eqb (bitAnd chosen 0) chosen (and-zero-r chosen ∙ omega arith)
   chosen-places (x ∷ xs) chosen h =
@@ -131,6 +131,27 @@ module _ {A : Type 0} (test : A → Bool) where
           ≡ all test (if o then x ∷ selected (chosen / 2) xs else selected (chosen / 2) xs)
       take-in true = refl
       take-in false = refl
+
+  -- and has none of them just if the test holds of none that it selects
+  pub chosen-none : (xs : List A) (chosen : ℕ) → eqb (bitAnd chosen (placesOf test xs)) 0 ≡ not (any test (selected chosen xs))
+  unfolding placesOf selected any
+  chosen-none [] chosen = eq-eqb (bitAnd chosen 0) 0 (and-zero-r chosen)
+  chosen-none (x ∷ xs) chosen =
+      ap (λ (n : ℕ). eqb n 0) (and-digit chosen (test x) (placesOf test xs))
+      ∙ go (odd chosen) (test x) (bitAnd (chosen / 2) (placesOf test xs)) (chosen-none xs (chosen / 2))
+      ∙ ap not (taken (odd chosen))
+    where
+      later : List A
+      later = selected (chosen / 2) xs
+
+      go : (o b : Bool) (n : ℕ) → eqb n 0 ≡ not (any test later) → eqb (digit (o && b) + 2 * n) 0 ≡ not ((o && b) || any test later)
+      go true true n e = ne-eqb (1 + 2 * n) 0 (λ k. omega arith)
+      go true false n e = eqb-same (0 + 2 * n) 0 n 0 (λ k. omega arith) (λ k. omega arith) ∙ e
+      go false b n e = eqb-same (0 + 2 * n) 0 n 0 (λ k. omega arith) (λ k. omega arith) ∙ e
+
+      taken : (o : Bool) → ((o && test x) || any test later) ≡ any test (if o then x ∷ later else later)
+      taken true = refl
+      taken false = refl
 
 module _ {A : Type 0} where
   places-and : (p q : A → Bool) (xs : List A) → bitAnd (placesOf p xs) (placesOf q xs) ≡ placesOf (λ x. p x && q x) xs

@@ -5,6 +5,7 @@ use mathlib.Core.Logic.{_⊎_, inl, inr, ⊎-elim}
 use mathlib.Core.Option.{none}
 use mathlib.Core.Path.{_≡_, refl, sym, _∙_}
 use lib.IntN.{ℤ}
+use Rattle.ground.specs.Tests.{Says}
 use Rattle.ground.proofs.Branches.{false-true}
 use Rattle.rules.specs.declared.Located.{Located}
 use Rattle.rules.specs.declared.Located.the-variants.{Inside, Outside}
@@ -18,11 +19,6 @@ use Rattle.rules.specs.TreeCalls.{pointRefusal, pointTale, TreeLocated}
 use Rattle.rules.proofs.Told.{located-once}
 use Rattle.laws.specs.Sets.{InSet}
 use Rattle.laws.proofs.Answers.{told-later, told-fine, holds-point}
-
--- a test that says whether something holds
-abbrev Says : Bool → Type 0 → Type 0
-Says true X = X
-Says false X = X → ⊥
 
 says-or : (a b : Bool) (X Y : Type 0) → Says a X → Says b Y → Says (a || b) (X ⊎ Y)
 says-or true b X Y x y = inl x

@@ -36,7 +36,7 @@ not-less (pos a) (negsuc b) = refl
 not-less (negsuc a) (pos b) = refl
 not-less (negsuc a) (negsuc b) = not-below b a
 
-implied-left : (p q : Bool) → (q ≡ true → p ≡ true) → q ≡ (p && q)
+pub implied-left : (p q : Bool) → (q ≡ true → p ≡ true) → q ≡ (p && q)
 implied-left p true f = ap (λ (x : Bool). x && true) (sym (f refl))
 implied-left p false f = sym (and-false p)
 
@@ -45,14 +45,14 @@ implied-right p q f = implied-left q p f ∙ and-comm q p
 
 -- the greater of two is at most v just if both are; v is at most the lesser just if it is at most both
 module _ (a b v : ℤ) where
-  greater-most : leZ (if leZ a b then b else a) v ≡ (leZ a v && leZ b v)
+  pub greater-most : leZ (if leZ a b then b else a) v ≡ (leZ a v && leZ b v)
   greater-most = go (leZ a b) refl
     where
       go : (t : Bool) → leZ a b ≡ t → leZ (if t then b else a) v ≡ (leZ a v && leZ b v)
       go true h = implied-left (leZ a v) (leZ b v) (leZ-trans a b v h)
       go false h = implied-right (leZ a v) (leZ b v) (leZ-trans b a v (leZ-other a b h))
 
-  lesser-least : leZ v (if leZ a b then a else b) ≡ (leZ v a && leZ v b)
+  pub lesser-least : leZ v (if leZ a b then a else b) ≡ (leZ v a && leZ v b)
   lesser-least = go (leZ a b) refl
     where
       go : (t : Bool) → leZ a b ≡ t → leZ v (if t then a else b) ≡ (leZ v a && leZ v b)
@@ -61,7 +61,7 @@ module _ (a b v : ℤ) where
 
 -- ---- spans
 
-abbrev filled : Span → Bool
+abbrev pub filled : Span → Bool
 filled s = leZ (s .lo) (s .hi)
 
 abbrev meets : Span → Span → Bool
@@ -108,10 +108,10 @@ meets-both s a b h =
 
 -- ---- boxes
 
-by-axis : {p q r u v w : Bool} → p ≡ u → q ≡ v → r ≡ w → (p && (q && r)) ≡ (u && (v && w))
+pub by-axis : {p q r u v w : Bool} → p ≡ u → q ≡ v → r ≡ w → (p && (q && r)) ≡ (u && (v && w))
 by-axis e f g = ap₂ _&&_ e (ap₂ _&&_ f g)
 
-filled-axes : (b : Box) → not (empty b) ≡ (filled (b .x) && (filled (b .y) && filled (b .z)))
+pub filled-axes : (b : Box) → not (empty b) ≡ (filled (b .x) && (filled (b .y) && filled (b .z)))
 filled-axes b =
     go (ltZ (b .x .hi) (b .x .lo)) (ltZ (b .y .hi) (b .y .lo)) (ltZ (b .z .hi) (b .z .lo))
     ∙ by-axis (not-less (b .x .hi) (b .x .lo)) (not-less (b .y .hi) (b .y .lo)) (not-less (b .z .hi) (b .z .lo))
@@ -146,21 +146,21 @@ module _ (a b : Box) (h : share a b ≡ true) where
   share-self : share a a ≡ true
   share-self = share-axes a a ∙ by-axis (meets-self (a .x) (b .x) on-x) (meets-self (a .y) (b .y) on-y) (meets-self (a .z) (b .z) on-z)
 
-and-swap : (p q r s : Bool) → ((p && q) && (r && s)) ≡ ((p && r) && (q && s))
+pub and-swap : (p q r s : Bool) → ((p && q) && (r && s)) ≡ ((p && r) && (q && s))
 and-swap true true r s = refl
 and-swap true false r s = sym (and-false r)
 and-swap false q r s = refl
+
+pub axes-swap : (p q r t u v : Bool) → ((p && q) && ((r && t) && (u && v))) ≡ ((p && (r && u)) && (q && (t && v)))
+axes-swap p q r t u v = ap (λ (x : Bool). (p && q) && x) (and-swap r t u v) ∙ and-swap p q (r && u) (t && v)
 
 -- a box shares a point with what two have in common just if it shares one with both
 pub share-both : (s a b : Box) → share a b ≡ true → share s (commonBox a b) ≡ (share s a && share s b)
 share-both s a b h =
     share-axes s (commonBox a b)
     ∙ by-axis (meets-both (s .x) (a .x) (b .x) (on-x a b h)) (meets-both (s .y) (a .y) (b .y) (on-y a b h)) (meets-both (s .z) (a .z) (b .z) (on-z a b h))
-    ∙ swap (meets (s .x) (a .x)) (meets (s .x) (b .x)) (meets (s .y) (a .y)) (meets (s .y) (b .y)) (meets (s .z) (a .z)) (meets (s .z) (b .z))
+    ∙ axes-swap (meets (s .x) (a .x)) (meets (s .x) (b .x)) (meets (s .y) (a .y)) (meets (s .y) (b .y)) (meets (s .z) (a .z)) (meets (s .z) (b .z))
     ∙ ap₂ _&&_ (sym (share-axes s a)) (sym (share-axes s b))
-  where
-    swap : (p q r t u v : Bool) → ((p && q) && ((r && t) && (u && v))) ≡ ((p && (r && u)) && (q && (t && v)))
-    swap p q r t u v = ap (λ (x : Bool). (p && q) && x) (and-swap r t u v) ∙ and-swap p q (r && u) (t && v)
 
 -- ---- lists of boxes
 

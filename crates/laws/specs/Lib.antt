@@ -5,3 +5,5 @@ pub mod Plans
 pub mod Listing
 pub mod Reach
 pub mod Listed
+pub mod SoundList
+pub mod Held

@@ -1,6 +1,5 @@
 -- How the list grows by one way of choosing: by nothing, or by that way's product after its cuts. Assumes nothing.
-use Prim.Native.Nat.{ℕ, suc, _+_, _*_, _≤_, _<_}
-use native.Mathlib.Nat.{add-zero}
+use Prim.Native.Nat.{ℕ, _+_, _*_, _≤_, _<_}
 use native.Mathlib.Numerals.{add-one}
 use native.Mathlib.Omega.{arith}
 use mathlib.Core.Bool.{Bool, true, false, _&&_}
@@ -9,10 +8,11 @@ use mathlib.Core.Path.{_≡_, refl, sym, ap, _∙_}
 use borrow.Author.Tests.{eq-eqb, ne-eqb}
 use lib.Bits.{bitAnd}
 use lib.IntN.{ℤ}
-use lib.ListN.{length, take, set, length-append}
+use lib.ListN.{length, take, length-append}
 use lib.Seq.{sets, length-take-le}
 use Rattle.ground.specs.Tests.{if_then_else_}
 use Rattle.ground.proofs.Lists.{flatMap-append}
+use Rattle.ground.proofs.Writes.{sets-append}
 use Rattle.rules.specs.declared.Product.{Product}
 use Rattle.rules.specs.ListWords.{wordsOf}
 use Rattle.laws.specs.Plans.{Plan, ways, count, kth, fresh, Apart}
@@ -77,12 +77,6 @@ pub flat-length : (ps : List Product) → length (flatMap wordsOf ps) ≡ 2 * le
 unfolding flatMap
 flat-length [] = refl
 flat-length (c ∷ ps) = omega (arith, flat-length ps)
-
-pub sets-append : (l : List ℕ) (i : ℕ) (xs ys : List ℕ) → sets l i (xs ++ ys) ≡ sets (sets l i xs) (i + length xs) ys
-sets-append l i [] ys = ap (λ (n : ℕ). sets l n ys) (sym (add-zero i))
-sets-append l i (x ∷ xs) ys =
-    let e : suc i + length xs ≡ i + suc (length xs) = omega arith in
-    sets-append (set l i x) (suc i) xs ys ∙ ap (λ (n : ℕ). sets (sets (set l i x) (suc i) xs) n ys) e
 
 -- products that were written, and more of them after these
 pub written-more : (l : List ℕ) (ps more : List Product) {after : List Product} {n : ℕ} {words now : List ℕ} → after ≡ ps ++ more → n ≡ length ps

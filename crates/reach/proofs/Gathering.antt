@@ -5,7 +5,7 @@ use native.Mathlib.Omega.{arith}
 use mathlib.Core.Bool.{Bool}
 use mathlib.Core.List.{List, [], _∷_, _++_, map, append-nil}
 use mathlib.Core.Option.{some}
-use mathlib.Core.Path.{_≡_, refl, sym, ap, _∙_}
+use mathlib.Core.Path.{_≡_, refl, sym, ap, subst, _∙_}
 use lib.Bits.{bitAnd, bitOr, and-mask}
 use lib.Dec.{eqb}
 use lib.IntN.{ℤ}
@@ -18,7 +18,6 @@ use Rattle.ground.proofs.Masks.{has, has-shifted}
 use Rattle.rules.specs.declared.Primitive.{Primitive}
 use Rattle.rules.specs.declared.Row.{Row}
 use Rattle.rules.specs.declared.Row.the-variants.{Solid}
-use Rattle.rules.specs.Boxes.{Box, share}
 use Rattle.rules.specs.Products.{boxOf}
 use Rattle.rules.specs.Table.{rowCount, rowAt, solidOf, primitivesBefore}
 use Rattle.laws.specs.Reach.{sharing}
@@ -50,9 +49,9 @@ last-mapped f [] x = refl
 last-mapped {A} {B} f (y ∷ ys) x = ap (λ (zs : List B). f y ∷ zs) (last-mapped f ys x)
 
 module _ (solids : List Primitive) (s : Primitive) where
-  pub gathers-more : (box : Box) (g : Gathered) → Gathers solids box g → Gathers (solids ++ (s ∷ [])) box (withOne g (share (boxOf s) box))
-  gathers-more box g G = record {
-    set = (λ i. bitOr (G .set i) (if share (boxOf s) box then 2 ^ G .count i else 0)) ∙ sym (last-place (λ p. share (boxOf p) box) solids s);
+  gathers-more : (test : Primitive → Bool) (g : Gathered) → Gathers solids test g → Gathers (solids ++ (s ∷ [])) test (withOne g (test s))
+  gathers-more test g G = record {
+    set = (λ i. bitOr (G .set i) (if test s then 2 ^ G .count i else 0)) ∙ sym (last-place test solids s);
     count = ap (λ (n : ℕ). n + 1) (G .count) ∙ sym (length-append solids (s ∷ []));
   }
 
@@ -73,7 +72,6 @@ met {meets = meets} M = (M .number, record { size = M .size; each = ap (λ (n : 
 
 -- ---- one row more
 
--- what the reading of a row asks
 -- a primitive's number, where a row was read as one
 pub number-right : {t : List ℤ} {row : ℕ} → Sound t → row < rowCount t → {x : Row} {s : Primitive} → some x ≡ rowAt t row → x ≡ Solid s
     → length (primitivesBefore t row) < 64
@@ -87,3 +85,18 @@ module _ (t : List ℤ) (row : ℕ) {x r : Row} (e : some x ≡ rowAt t row) (g 
 
   pub none-more : solidOf (some r) ≡ [] → primitivesBefore t row ≡ primitivesBefore t (row + 1)
   none-more h = sym (append-nil (primitivesBefore t row)) ∙ ap (λ (ps : List Primitive). primitivesBefore t row ++ ps) (sym h) ∙ row-more
+
+  pub one-more : {s : Primitive} → r ≡ Solid s → length (primitivesBefore t (row + 1)) ≡ length (primitivesBefore t row) + 1
+  one-more {s} h =
+      ap (λ (ps : List Primitive). length ps) (sym row-more ∙ ap (λ (y : Row). primitivesBefore t row ++ solidOf (some y)) h)
+      ∙ length-append (primitivesBefore t row) (s ∷ [])
+
+  module _ (test : Primitive → Bool) (found : Gathered) (G : Gathers (primitivesBefore t row) test found) where
+    -- a primitive is added by the test of it, and an operation leaves all as it is
+    pub row-gathers : {s : Primitive} → r ≡ Solid s → Gathers (primitivesBefore t (row + 1)) test (withOne found (test s))
+    row-gathers {s} h =
+        subst (λ (ps : List Primitive). Gathers ps test (withOne found (test s))) (ap (λ (y : Row). primitivesBefore t row ++ solidOf (some y)) (sym h) ∙ row-more)
+        (gathers-more (primitivesBefore t row) s test found G)
+
+    pub row-passes : solidOf (some r) ≡ [] → Gathers (primitivesBefore t (row + 1)) test found
+    row-passes h = subst (λ (ps : List Primitive). Gathers ps test found) (none-more h) G

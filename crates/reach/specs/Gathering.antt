@@ -1,4 +1,4 @@
--- Spans apart; sets of primitives while they are gathered row by row, and those sets in an array.
+-- Spans apart; sets of primitives while they are gathered row by row, and such sets in an array.
 use Prim.Native.Nat.{ℕ, _+_, _^_}
 use mathlib.Core.Bool.{Bool}
 use mathlib.Core.List.{List, map}
@@ -6,10 +6,11 @@ use mathlib.Core.Path.{_≡_}
 use lib.Bits.{bitOr}
 use lib.ListN.{length, take}
 use lib.Signed.{ltZ}
+use Rattle.ground.specs.Bits.{placesOf}
 use Rattle.ground.specs.Tests.{if_then_else_}
 use Rattle.rules.specs.declared.Primitive.{Primitive}
 use Rattle.rules.specs.Ranges.{Span}
-use Rattle.rules.specs.Boxes.{Box, common}
+use Rattle.rules.specs.Boxes.{Box, common, share}
 use Rattle.rules.specs.Products.{boxOf}
 use Rattle.laws.specs.Reach.{sharing, meetings}
 use Rattle.reach.specs.declared.Gathered.{Gathered}
@@ -18,14 +19,18 @@ use Rattle.reach.specs.declared.Gathered.{Gathered}
 abbrev pub apart : Span → Span → Bool
 apart a b = ltZ (common a b .hi) (common a b .lo)
 
--- one primitive more, whose box shares a point with the box or does not
+-- one primitive more, of which the test holds or does not
 abbrev pub withOne : Gathered → Bool → Gathered
-withOne g shares = record { set = bitOr (g .set) (if shares then 2 ^ g .count else 0); count = g .count + 1 }
+withOne g passes = record { set = bitOr (g .set) (if passes then 2 ^ g .count else 0); count = g .count + 1 }
 
--- of these primitives, those whose boxes share a point with a box; and how many these are
-pub record Gathers (solids : List Primitive) (box : Box) (g : Gathered) : Type 0 where
-  pub set : g .set ≡ sharing solids box
+-- of these primitives, those of which a test holds; and how many these are
+pub record Gathers (solids : List Primitive) (test : Primitive → Bool) (g : Gathered) : Type 0 where
+  pub set : g .set ≡ placesOf test solids
   pub count : g .count ≡ length solids
+
+-- a box shares a point with the primitive's box
+abbrev pub meeting : Box → Primitive → Bool
+meeting box s = share (boxOf s) box
 
 -- an array that holds, for each of some primitives, which of all share a point with it; and how many these are
 pub record Meets (all solids : List Primitive) (count : ℕ) (meets : List ℕ) : Type 0 where

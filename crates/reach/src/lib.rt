@@ -13,9 +13,9 @@ ghost use Rattle.rules.specs.Products.{boxOf};
 ghost use Rattle.rules.specs.Table.{rowCount, primitivesBefore, primitives};
 ghost use Rattle.laws.specs.Sound.{Sound, solidRight};
 ghost use Rattle.laws.specs.Reach.{sharing, cutDown};
-ghost use Rattle.reach.specs.Gathering.{apart, withOne, Gathers, Meets, Met};
+ghost use Rattle.reach.specs.Gathering.{apart, withOne, Gathers, meeting, Meets, Met};
 
-// The primitives that have passed: those whose boxes share a point with a box, and how many there were.
+// The primitives that have passed: those of which a test holds, and how many there were.
 pub struct Gathered {
     pub set: u64,
     pub count: usize,
@@ -57,12 +57,12 @@ fn boxes_share(a: BoxShape, b: BoxShape) -> bool
         | (spans_part(a.ylo, a.yhi, b.ylo, b.yhi) | spans_part(a.zlo, a.zhi, b.zlo, b.zhi)))
 }
 
-// One primitive more, by whether its box shares a point with the box.
-fn added(g: Gathered, shares: bool) -> Gathered
+// One primitive more, by whether the test holds of it.
+pub fn added(g: Gathered, passes: bool) -> Gathered
     requires { ⌜ g .count < 64 ⌝ }
-    ensures { λ r. ⌜ r ≡ withOne g shares ⌝ }
+    ensures { λ r. ⌜ r ≡ withOne g passes ⌝ }
 {
-    let bit: u64 = if shares { 1 << g.count } else { 0 };
+    let bit: u64 = if passes { 1 << g.count } else { 0 };
     Gathered {
         set: g.set | bit,
         count: g.count + 1,
@@ -73,8 +73,8 @@ fn added(g: Gathered, shares: bool) -> Gathered
 fn gather(table: &[i32], row: usize, b: BoxShape, g: Gathered) -> Gathered
     requires { ⌜ Sound (now table) ⌝ }
     requires { ⌜ row < rowCount (now table) ⌝ }
-    requires { ⌜ Gathers (primitivesBefore (now table) row) (bounds b) g ⌝ }
-    ensures { λ r. ⌜ Gathers (primitivesBefore (now (table .entry)) (row + 1)) (bounds b) r ⌝ }
+    requires { ⌜ Gathers (primitivesBefore (now table) row) (meeting (bounds b)) g ⌝ }
+    ensures { λ r. ⌜ Gathers (primitivesBefore (now (table .entry)) (row + 1)) (meeting (bounds b)) r ⌝ }
 {
     let reads = table::read_row(table, row);
     match reads {

@@ -133,7 +133,7 @@ pub text-once : (xs ys : List TextRow) → All RightRow xs → All RightRow ys �
 text-once xs ys rx ry e = lines-once xs ys rx ry (tail-eq-of-cons-eq (sym (text-lines xs) ∙ ap linesOf e ∙ text-lines ys))
 
 -- what stands past the end of some rows
-abbrev noRow : TextRow
+abbrev pub noRow : TextRow
 noRow = record { kind = Box; words = [] }
 
 -- every line of a text that is spelt is right

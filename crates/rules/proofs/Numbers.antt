@@ -5,6 +5,7 @@ use native.Mathlib.Omega.{arith}
 use mathlib.Core.Bool.{Bool, true, false}
 use mathlib.Core.List.{List, [], _∷_, _++_, tail-eq-of-cons-eq}
 use mathlib.Core.Path.{_≡_, refl, sym, ap, subst, _∙_}
+use borrow.Author.Tests.{ltb-true}
 use lib.Dec.{ltb}
 use lib.IntN.{ℤ, pos, negsuc}
 use Rattle.ground.specs.Lists.{All}
@@ -14,7 +15,7 @@ use Rattle.rules.specs.Text.{digit, decimalIn, decimal, numberText}
 use Rattle.rules.specs.TextForm.{Word32}
 
 -- what a run of digits is worth, after others worth v
-worth : ℕ → List ℕ → ℕ
+unfoldable pub worth : ℕ → List ℕ → ℕ
 worth v [] = v
 worth v (b ∷ bs) = worth (v * 10 + (b - 48)) bs
 
@@ -23,7 +24,7 @@ unfolding worth
 worth-last [] v d = omega arith
 worth-last (b ∷ bs) v d = worth-last bs (v * 10 + (b - 48)) d
 
-worth-decimal : (most n : ℕ) → n < 10 ^ most → worth 0 (decimalIn most n) ≡ n
+pub worth-decimal : (most n : ℕ) → n < 10 ^ most → worth 0 (decimalIn most n) ≡ n
 unfolding worth decimalIn
 worth-decimal zero n h = omega arith
 worth-decimal (suc most) n h = go (ltb n 10) refl (worth-decimal most)
@@ -36,26 +37,31 @@ worth-decimal (suc most) n h = go (ltb n 10) refl (worth-decimal most)
         let q : n / 10 < 10 ^ most = omega arith in
         worth-last (decimalIn most (n / 10)) 0 (n % 10) ∙ ap (λ (q : ℕ). q * 10 + n % 10) (rest (n / 10) q) ∙ div-add-mod' n 10
 
--- only digits
-abbrev Digits : List ℕ → Type 0
-Digits bs = All (λ b. 48 ≤ b) bs
+-- a byte that is a digit, and bytes that all are
+pub record Digit (b : ℕ) : Type 0 where
+  pub least : 48 ≤ b
+  pub greatest : b ≤ 57
 
-digits : (most n : ℕ) → Digits (decimalIn most n)
+abbrev pub Digits : List ℕ → Type 0
+Digits bs = All Digit bs
+
+pub digits : (most n : ℕ) → Digits (decimalIn most n)
 unfolding decimalIn
 digits zero n = tt
-digits (suc most) n = go (ltb n 10) (digits most (n / 10))
+digits (suc most) n = go (ltb n 10) (ltb-true n 10) (digits most (n / 10))
   where
-    go : (b : Bool) → Digits (decimalIn most (n / 10)) → Digits (if b then digit n ∷ [] else decimalIn most (n / 10) ++ (digit (n % 10) ∷ []))
-    go true h = (omega arith, tt)
-    go false h = all-append (λ b. 48 ≤ b) (decimalIn most (n / 10)) (digit (n % 10) ∷ []) h (omega arith, tt)
+    go : (b : Bool) → (b ≡ true → n < 10) → Digits (decimalIn most (n / 10))
+        → Digits (if b then digit n ∷ [] else decimalIn most (n / 10) ++ (digit (n % 10) ∷ []))
+    go true l h = let s : n < 10 = l refl in (record { least = omega arith; greatest = omega arith }, tt)
+    go false l h = all-append Digit (decimalIn most (n / 10)) (digit (n % 10) ∷ []) h (record { least = omega arith; greatest = omega arith }, tt)
 
 pub decimal-once : (m n : ℕ) → m < 10 ^ 10 → n < 10 ^ 10 → decimal m ≡ decimal n → m ≡ n
 decimal-once m n hm hn e = sym (worth-decimal 10 m hm) ∙ ap (worth 0) e ∙ worth-decimal 10 n hn
 
 pub number-once : (v w : ℤ) → Word32 v → Word32 w → numberText v ≡ numberText w → v ≡ w
 number-once (pos m) (pos n) hv hw e = ap pos (decimal-once m n (omega (arith, hv .fits)) (omega (arith, hw .fits)) e)
-number-once (pos m) (negsuc n) hv hw e = let d : 48 ≤ 45 = subst Digits e (digits 10 m) .0 in absurd (omega arith)
-number-once (negsuc m) (pos n) hv hw e = let d : 48 ≤ 45 = subst Digits (sym e) (digits 10 n) .0 in absurd (omega arith)
+number-once (pos m) (negsuc n) hv hw e = let d : Digit 45 = subst Digits e (digits 10 m) .0 in absurd (omega arith)
+number-once (negsuc m) (pos n) hv hw e = let d : Digit 45 = subst Digits (sym e) (digits 10 n) .0 in absurd (omega arith)
 number-once (negsuc m) (negsuc n) hv hw e =
     let s : suc m ≡ suc n = decimal-once (suc m) (suc n) (omega (arith, hv .fits)) (omega (arith, hw .fits)) (tail-eq-of-cons-eq e) in
     let p : m ≡ n = omega arith in
@@ -63,7 +69,7 @@ number-once (negsuc m) (negsuc n) hv hw e =
 
 -- a minus and digits are 45 or more; tabs and line feeds are less
 pub decimal-run : (n : ℕ) → All (λ b. 45 ≤ b) (decimal n)
-decimal-run n = all-map (λ b. 48 ≤ b) (λ b. 45 ≤ b) (λ b h. omega arith) (decimal n) (digits 10 n)
+decimal-run n = all-map Digit (λ b. 45 ≤ b) (λ b h. omega arith) (decimal n) (digits 10 n)
 
 pub number-run : (v : ℤ) → All (λ b. 45 ≤ b) (numberText v)
 number-run (pos n) = decimal-run n

@@ -47,16 +47,23 @@ productRefusals list k =
     ∷ refuseUnless (cutsRight (primitiveCount list) (productAt list k)) 9 (placeOf k + 1)
     ∷ []
 
+abbrev pub primitivesRight : List ℕ → Bool
+primitivesRight list = leb 1 (primitiveCount list) && leb (primitiveCount list) mostPrimitives
+
+-- the faults of words 0 to 7
+abbrev pub headerRefusals : List ℕ → List (Option Refusal)
+headerRefusals list =
+    refuseUnless (countRight list) 9 0
+    ∷ (boundsRefusals list 1 columnOffset columns
+    ++ (boundsRefusals list 3 codeOffset codes
+    ++ (boundsRefusals list 5 frameOffset frames
+    ++ (refuseUnless (primitivesRight list) 9 7 ∷ []))))
+
 unfoldable pub listRefusal : List ℕ → Option Refusal
 listRefusal list =
     firstOf
     (refuseIf (ltb (length list) headerWords) 9 (length list)
-    ∷ refuseUnless (countRight list) 9 0
-    ∷ (boundsRefusals list 1 columnOffset columns
-    ++ (boundsRefusals list 3 codeOffset codes
-    ++ (boundsRefusals list 5 frameOffset frames
-    ++ (refuseUnless (leb 1 (primitiveCount list) && leb (primitiveCount list) mostPrimitives) 9 7
-    ∷ flatMap (productRefusals list) (below (productCount list)))))))
+    ∷ (headerRefusals list ++ flatMap (productRefusals list) (below (productCount list))))
 
 -- the list's number of primitives is not the table's (11)
 abbrev pub primitivesRefusal : List Primitive → List ℕ → Option Refusal

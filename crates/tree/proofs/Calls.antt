@@ -1,12 +1,10 @@
 -- What the calls over the tree answer, from the rules that were kept or broken on the way. Assumes nothing.
-use Prim.Native.Nat.{ℕ}
-use mathlib.Core.Bool.{Bool, true, false, or-false}
+use mathlib.Core.Bool.{Bool, true, false}
 use mathlib.Core.List.{List, [], _∷_}
 use mathlib.Core.Option.{none, some}
 use mathlib.Core.Path.{_≡_, sym, ap, _∙_}
 use lib.IntN.{ℤ}
 use lib.ListN.{length}
-use Rattle.ground.specs.Lists.{any}
 use Rattle.rules.specs.declared.Located.{Located}
 use Rattle.rules.specs.declared.Located.the-variants as located
 use Rattle.rules.specs.declared.Place.{Place}
@@ -18,7 +16,7 @@ use Rattle.rules.specs.Boxes.{everywhere}
 use Rattle.rules.specs.Verdict.{tableRefusal}
 use Rattle.rules.specs.Tree.{treeOf}
 use Rattle.rules.specs.Inside.{inside}
-use Rattle.rules.specs.Frame.{codeAt, pointOf, frameRefusal, sampleInside, firstInside, insideCount}
+use Rattle.rules.specs.Frame.{frameRefusal, sampleInside, firstInside, insideCount}
 use Rattle.rules.specs.Told.{Tale, fine, toldLocated, toldSearched}
 use Rattle.rules.specs.TreeCalls.{pointRefusal, pointTale, searchTale, TreeLocated, TreeSearched}
 use Rattle.laws.proofs.Answers.{told-now, told-later, told-fine}
@@ -63,8 +61,3 @@ module _ (t samples : List ℤ) (place : Place) where
       answer = e ∙ (λ i. fine (searchTale (n .first i) (n .count i)))
           ∙ told-later (tableRefusal t) (frameRefusal samples place ∷ []) tale h (told-later (frameRefusal samples place) [] tale k (told-fine tale));
     }
-
--- a column holds one code
-pub one-code : (isInside : Point → Bool) (samples : List ℤ) (place : Place) (k : ℕ) → sampleInside isInside samples place k ≡ isInside (pointOf place k (codeAt samples k))
-unfolding any
-one-code isInside samples place k = or-false (isInside (pointOf place k (codeAt samples k)))

@@ -6,7 +6,7 @@ use rules::Point;
 use rules::Searched;
 use rules::Window;
 use rules::Written;
-ghost use Rattle.rules.specs.ListCalls.{ListMade};
+ghost use Rattle.rules.specs.ListCalls.{ListMade, ListLocated, ListSearched};
 ghost use Rattle.rules.specs.TreeCalls.{TableChecked, TreeLocated, TreeSearched};
 
 // Whether a table is sound, or the first rule that it breaks (1 to 5).
@@ -36,4 +36,20 @@ pub fn make_list(table: &[i32], window: Window, list: &mut [u64]) -> Written
     ensures { λ r. ⌜ ListMade (now (table .entry)) window (now (list .entry)) (now (list .exit)) r ⌝ }
 {
     list::make_list(table, window, list)
+}
+
+// Whether a point is inside a list, for a point of its window. Refusals: the table's; 9 with the first faulty word; 11 with the table's number
+// of primitives, where the list was made for another; 10 with the first axis on which the point is out of the list's window.
+pub fn list_point(table: &[i32], list: &[u64], point: Point) -> Located
+    ensures { λ r. ⌜ ListLocated (now (table .entry)) (now (list .entry)) point r ⌝ }
+{
+    answer::list_point(table, list, point)
+}
+
+// The first inside sample of a frame and how many there are, by a list. Refusals: the table's; 9 and 11 for the list; 12 for the frame; 10 with
+// the first sample out of the list's window.
+pub fn list_search(table: &[i32], list: &[u64], samples: &[i16], place: Place) -> Searched
+    ensures { λ r. ⌜ ListSearched (now (table .entry)) (now (list .entry)) (now (samples .entry)) place r ⌝ }
+{
+    answer::list_search(table, list, samples, place)
 }

@@ -19,7 +19,7 @@ returns c =
     let b = c .before .before .before in
     let s = b .before in
     let g = s .args .g in
-    let bit : b .if1 .bit ≡ (if s .args .shares then 2 ^ g .count else 0)
+    let bit : b .if1 .bit ≡ (if s .args .passes then 2 ^ g .count else 0)
     = ⊎-elim (λ w. w .1 ∙ one-shifted (g .count) (s .pre) ∙ rw (w .0 .taken)) (λ w. w .1 ∙ rw (w .0 .left)) (b .if1 .came) in
     λ i. record { set = bitOr (g .set) (bit i); count = g .count + 1 }
 

@@ -1,19 +1,17 @@
 use Prim.Native.Nat.{_+_}
 use native.Mathlib.Omega.{arith}
-use mathlib.Core.List.{List, []}
+use mathlib.Core.List.{[]}
 use mathlib.Core.Option.{some}
 use mathlib.Core.Path.{_≡_, refl, sym, ap, subst, _∙_}
 use borrow.Author.Needs.{needs}
-use Rattle.rules.specs.declared.Primitive.{Primitive}
 use Rattle.rules.specs.declared.Row.{Row}
 use Rattle.rules.specs.Boxes.{Box, share}
 use Rattle.rules.specs.Inside.{bounds}
-use Rattle.rules.specs.Products.{boxOf}
 use Rattle.rules.specs.Table.{solidOf, primitivesBefore}
 use Rattle.laws.proofs.Trees.{read-right}
-use Rattle.reach.specs.Gathering.{withOne, Gathers}
+use Rattle.reach.specs.Gathering.{withOne, Gathers, meeting}
 use Rattle.table.proofs.Rows.{row-there}
-use Rattle.reach.proofs.Gathering.{number-right, row-more, none-more, gathers-more}
+use Rattle.reach.proofs.Gathering.{number-right, row-gathers, row-passes}
 use Rattle.reach.proofs.gather.Statement.{statement}
 use Rattle.reach.proofs.gather.Tie as tie
 
@@ -52,24 +50,17 @@ returns c =
     let k = c .before .before .before .before in
     let d = k .before .before in
     let s = d .before in
-    let t = s .args .table .now in
-    let row = s .args .row in
     let box = bounds (s .args .b) in
-    let p = k .reads .given .0 .0 in
     let shares = c .before .boxes-share .ensures ∙ ap (λ (a : Box). share a box) (c .before .before .box-of .ensures) in
-    let is = c .added .ensures ∙ ap (withOne (s .args .g)) shares in
-    let more = gathers-more (primitivesBefore t row) p box (s .args .g) (s .pre .1 .1) in
-    let next = row-more t row (d .read-row .ensures) (k .reads .given .1) in
-    subst (Gathers (primitivesBefore t (row + 1)) box) (sym is)
-    (subst (λ (ps : List Primitive). Gathers ps box (withOne (s .args .g) (share (boxOf p) box))) next more)
+    subst (Gathers (primitivesBefore (s .args .table .now) (s .args .row + 1)) (meeting box)) (sym (c .added .ensures ∙ ap (withOne (s .args .g)) shares))
+    (row-gathers (s .args .table .now) (s .args .row) (d .read-row .ensures) (k .reads .given .1) (meeting box) (s .args .g) (s .pre .1 .1) refl)
 
 -- an operation's row: what was gathered stays
 module _ (c : tie.After-read-row) {r : Row} (g : c .read-row .result ≡ r) (h : solidOf (some r) ≡ []) where
-  stays : let s = c .before in Gathers (primitivesBefore (s .args .table .now) (s .args .row + 1)) (bounds (s .args .b)) (s .args .g)
+  stays : let s = c .before in Gathers (primitivesBefore (s .args .table .now) (s .args .row + 1)) (meeting (bounds (s .args .b))) (s .args .g)
   stays =
       let s = c .before in
-      let same = none-more (s .args .table .now) (s .args .row) (c .read-row .ensures) g h in
-      subst (λ (ps : List Primitive). Gathers ps (bounds (s .args .b)) (s .args .g)) same (s .pre .1 .1)
+      row-passes (s .args .table .now) (s .args .row) (c .read-row .ensures) g (meeting (bounds (s .args .b))) (s .args .g) (s .pre .1 .1) h
 
 returns-2 : tie.Need-returns-2
 returns-2 c = stays (c .before .before) (c .enum-told .given .1) refl

@@ -7,12 +7,12 @@ use Rattle.ground.specs.Lists.{from}
 use Rattle.rules.specs.Inside.{bounds}
 use Rattle.rules.specs.Table.{rowCount, primitivesBefore}
 use Rattle.laws.specs.Reach.{sharing}
-use Rattle.reach.specs.Gathering.{Gathers}
+use Rattle.reach.specs.Gathering.{Gathers, meeting}
 use Rattle.reach.proofs.sharing_with.Statement.{statement}
 use Rattle.reach.proofs.sharing_with.Tie as tie
 
 abbrev Inv-loop : tie.InvT-loop
-Inv-loop table b rows g₀ row₀ g row = (row ≤ rows) × Gathers (primitivesBefore table row) (bounds b) g
+Inv-loop table b rows g₀ row₀ g row = (row ≤ rows) × Gathers (primitivesBefore table row) (meeting (bounds b)) g
 
 abbrev μ-loop : tie.MeasureT-loop
 μ-loop table b rows g₀ row₀ g row = rows - row

@@ -1,0 +1,158 @@
+-- What a check and the calls over a list answer, from the rules that were kept or broken on the way. Assumes nothing.
+use Prim.Native.Nat.{ℕ}
+use mathlib.Core.Bool.{Bool, true, false}
+use mathlib.Core.List.{List, [], _∷_, _++_, flatMap}
+use mathlib.Core.Option.{Option, none, some}
+use mathlib.Core.Path.{_≡_, sym, ap, _∙_}
+use borrow.Author.Tests.{eqb-true}
+use lib.Dec.{eqb, ltb}
+use lib.IntN.{ℤ}
+use lib.ListN.{length}
+use Rattle.ground.specs.Lists.{below, orElse, firstOf, rulings}
+use Rattle.ground.proofs.Counting.{first-kept}
+use Rattle.rules.specs.declared.Checked.{Checked}
+use Rattle.rules.specs.declared.Checked.the-variants as checked
+use Rattle.rules.specs.declared.Located.{Located}
+use Rattle.rules.specs.declared.Located.the-variants as located
+use Rattle.rules.specs.declared.Place.{Place}
+use Rattle.rules.specs.declared.Point.{Point}
+use Rattle.rules.specs.declared.Refusal.{Refusal}
+use Rattle.rules.specs.declared.Searched.{Searched}
+use Rattle.rules.specs.declared.Searched.the-variants as searched
+use Rattle.rules.specs.Frame.{frameRefusal, leavesRefusal, sampleInside, firstInside, insideCount}
+use Rattle.rules.specs.ListCalls.{ListLocated, ListSearched}
+use Rattle.rules.specs.ListFaults.{headerRefusals, productRefusals, listRefusal, primitivesRefusal}
+use Rattle.rules.specs.ListInside.{insideList}
+use Rattle.rules.specs.ListWords.{headerWords, listWindow, productCount, primitiveCount}
+use Rattle.rules.specs.Refusals.{refuse, refuseIf}
+use Rattle.rules.specs.Table.{primitives}
+use Rattle.rules.specs.Told.{Tale, Told, fine, refused, tell, toldLocated, toldSearched}
+use Rattle.rules.specs.TreeCalls.{pointRefusal, pointTale, searchTale}
+use Rattle.rules.specs.Verdict.{tableRefusal}
+use Rattle.laws.specs.Answers.{checkedBy}
+use Rattle.laws.proofs.Answers.{told-now, told-later, told-fine}
+use Rattle.laws.proofs.SoundLists.{first-append, first-rulings}
+use Rattle.laws.proofs.Soundness.{unless-kept}
+use Rattle.frame.specs.declared.Tally.{Tally}
+use Rattle.frame.specs.Tallies.{seen, Tallied}
+use Rattle.answer.specs.Checks.{Accepted}
+
+-- ---- checks by the first rule that is broken
+
+module _ (x : Option Refusal) (xs : List (Option Refusal)) where
+  pub checked-now : {r : Refusal} → x ≡ some r → checked.Refused r ≡ checkedBy (firstOf (x ∷ xs))
+  unfolding firstOf
+  checked-now h = rw h
+
+  pub checked-later : x ≡ none → {a : Checked} → a ≡ checkedBy (firstOf xs) → a ≡ checkedBy (firstOf (x ∷ xs))
+  unfolding firstOf
+  checked-later h e = rw h e
+
+-- ---- the check of a list
+
+module _ (list : List ℕ) where
+  abbrev others : List (Option Refusal)
+  others = headerRefusals list ++ flatMap (productRefusals list) (below (productCount list))
+
+  pub too-short : ltb (length list) headerWords ≡ true → checkedBy (refuse 9 (length list)) ≡ checkedBy (listRefusal list)
+  unfolding listRefusal firstOf
+  too-short h = rw h
+
+  module _ (long : ltb (length list) headerWords ≡ false) where
+    go-on : {a : Checked} → a ≡ checkedBy (firstOf others) → a ≡ checkedBy (listRefusal list)
+    unfolding listRefusal
+    go-on = checked-later (refuseIf (ltb (length list) headerWords) 9 (length list)) others (ap (λ (b : Bool). refuseIf b 9 (length list)) long)
+
+    pub header-refused : {r : Refusal} → firstOf (headerRefusals list) ≡ some r → checked.Refused r ≡ checkedBy (listRefusal list)
+    header-refused h =
+        go-on (sym (ap checkedBy (first-append (headerRefusals list) (flatMap (productRefusals list) (below (productCount list)))
+        ∙ ap (λ (x : Option Refusal). orElse x (firstOf (flatMap (productRefusals list) (below (productCount list))))) h)))
+
+    pub header-passed : firstOf (headerRefusals list) ≡ none → {a : Checked}
+        → a ≡ checkedBy (rulings (λ k. firstOf (productRefusals list k)) 0 (productCount list)) → a ≡ checkedBy (listRefusal list)
+    header-passed h e =
+        let products = flatMap (productRefusals list) (below (productCount list)) in
+        go-on (e ∙ sym (ap checkedBy (first-append (headerRefusals list) products
+        ∙ ap (λ (x : Option Refusal). orElse x (firstOf products)) h ∙ first-rulings (productRefusals list) (productCount list))))
+
+-- ---- table and list together
+
+module _ (t : List ℤ) (list : List ℕ) where
+  abbrev pub rules : List (Option Refusal)
+  rules = tableRefusal t ∷ listRefusal list ∷ primitivesRefusal (primitives t) list ∷ []
+
+  pub accepted : firstOf rules ≡ none → Accepted t list
+  accepted e =
+      let a = first-kept (tableRefusal t) (listRefusal list ∷ primitivesRefusal (primitives t) list ∷ []) e in
+      let b = first-kept (listRefusal list) (primitivesRefusal (primitives t) list ∷ []) (a .1) in
+      record { table = a .0; listed = b .0; counts = first-kept (primitivesRefusal (primitives t) list) [] (b .1) .0 }
+
+  -- the list has as many primitives as the table
+  pub same-counts : Accepted t list → primitiveCount list ≡ length (primitives t)
+  same-counts A =
+      eqb-true (primitiveCount list) (length (primitives t)) (unless-kept (eqb (primitiveCount list) (length (primitives t))) 11 (length (primitives t)) (A .counts))
+
+  -- what a call tells, by the rules that come after these
+  refused-by : {r : Refusal} → firstOf rules ≡ some r → (more : List (Option Refusal)) (tale : Tale) → refused r ≡ tell (firstOf (rules ++ more)) tale
+  refused-by h more tale =
+      sym (ap (λ (x : Option Refusal). tell x tale) (first-append rules more ∙ ap (λ (x : Option Refusal). orElse x (firstOf more)) h))
+
+  goes-on : Accepted t list → (more : List (Option Refusal)) (tale : Tale) {told : Told} → told ≡ tell (firstOf more) tale → told ≡ tell (firstOf (rules ++ more)) tale
+  goes-on A more tale e =
+      told-later (tableRefusal t) (listRefusal list ∷ primitivesRefusal (primitives t) list ∷ more) tale (A .table)
+      (told-later (listRefusal list) (primitivesRefusal (primitives t) list ∷ more) tale (A .listed)
+      (told-later (primitivesRefusal (primitives t) list) more tale (A .counts) e))
+
+  module _ (p : Point) where
+    abbrev answer : Tale
+    answer = pointTale (insideList (primitives t) list p)
+
+    abbrev window : Option Refusal
+    window = pointRefusal (listWindow list) p
+
+    pub point-refused : {r : Refusal} → firstOf rules ≡ some r → ListLocated t list p (located.Refused r)
+    point-refused h = record { answer = refused-by h (window ∷ []) answer }
+
+    module _ (A : Accepted t list) where
+      pub point-out : {r : Refusal} → window ≡ some r → ListLocated t list p (located.Refused r)
+      point-out k = record { answer = goes-on A (window ∷ []) answer (told-now window [] answer k) }
+
+      located-fine : (r : Located) → window ≡ none → toldLocated r ≡ fine answer → ListLocated t list p r
+      located-fine r k e = record { answer = e ∙ goes-on A (window ∷ []) answer (told-later window [] answer k (told-fine answer)) }
+
+      pub point-inside : window ≡ none → insideList (primitives t) list p ≡ true → ListLocated t list p located.Inside
+      point-inside k i = located-fine located.Inside k (ap (λ (b : Bool). fine (pointTale b)) (sym i))
+
+      pub point-outside : window ≡ none → insideList (primitives t) list p ≡ false → ListLocated t list p located.Outside
+      point-outside k i = located-fine located.Outside k (ap (λ (b : Bool). fine (pointTale b)) (sym i))
+
+  module _ (samples : List ℤ) (place : Place) where
+    abbrev isInside : Point → Bool
+    isInside = insideList (primitives t) list
+
+    abbrev tale : Tale
+    tale = searchTale (firstInside isInside samples place) (insideCount isInside samples place)
+
+    abbrev leaves : Option Refusal
+    leaves = leavesRefusal (listWindow list) samples place
+
+    pub search-refused : {r : Refusal} → firstOf rules ≡ some r → ListSearched t list samples place (searched.Refused r)
+    search-refused h = record { answer = refused-by h (frameRefusal samples place ∷ leaves ∷ []) tale }
+
+    module _ (A : Accepted t list) where
+      pub search-frame : {r : Refusal} → frameRefusal samples place ≡ some r → ListSearched t list samples place (searched.Refused r)
+      search-frame k = record { answer = goes-on A (frameRefusal samples place ∷ leaves ∷ []) tale (told-now (frameRefusal samples place) (leaves ∷ []) tale k) }
+
+      module _ (f : frameRefusal samples place ≡ none) where
+        framed : {told : Told} → told ≡ tell (firstOf (leaves ∷ [])) tale → told ≡ tell (firstOf (rules ++ (frameRefusal samples place ∷ leaves ∷ []))) tale
+        framed e = goes-on A (frameRefusal samples place ∷ leaves ∷ []) tale (told-later (frameRefusal samples place) (leaves ∷ []) tale f e)
+
+        pub search-leaves : {r : Refusal} → leaves ≡ some r → ListSearched t list samples place (searched.Refused r)
+        search-leaves k = record { answer = framed (told-now leaves [] tale k) }
+
+        pub search-fine : leaves ≡ none → {n : Tally} → Tallied (sampleInside isInside samples place) (length samples) n
+            → (r : Searched) → toldSearched r ≡ fine (searchTale (seen n) (n .count)) → ListSearched t list samples place r
+        unfolding firstInside insideCount
+        search-fine k n r e = record {
+          answer = e ∙ (λ i. fine (searchTale (n .first i) (n .count i))) ∙ framed (told-later leaves [] tale k (told-fine tale));
+        }

@@ -1,0 +1,176 @@
+-- The code's tests of a list are the rules' tests; and checks one after the other are one check by all their rules. Assumes nothing.
+use Prim.Native.Nat.{ℕ, suc, _+_, _-_, _*_, _/_, _%_, _^_, _≤_, _<_}
+use native.Mathlib.Nat.{pow-suc}
+use native.Mathlib.Omega.{arith}
+use mathlib.Core.Bool.{Bool, true, false, not, _&&_, _||_, Bool·not-not}
+use mathlib.Core.List.{List, [], _∷_, _++_}
+use mathlib.Core.Option.{Option, none, some}
+use mathlib.Core.Path.{_≡_, refl, sym, ap, ap₂, _∙_}
+use borrow.Author.Tests.{leb-true, leb-false, le-leb, lt-leb, le-ltb, lt-ltb}
+use lib.Bits.{bitAnd}
+use lib.Dec.{eqb, leb, ltb, leb·suc-suc}
+use lib.ListN.{length}
+use lib.Pow.{pow-mono}
+use Rattle.ground.specs.Lists.{orElse, firstOf}
+use Rattle.ground.proofs.Counting.{or-else-none}
+use Rattle.ground.proofs.Masks.{one-shifted}
+use Rattle.rules.specs.declared.Checked.{Checked}
+use Rattle.rules.specs.declared.Product.{Product}
+use Rattle.rules.specs.declared.Refusal.{Refusal}
+use Rattle.rules.specs.ListFaults.{countRight, fits, plainRight, cutsRight, primitivesRight, productRefusals, headerRefusals}
+use Rattle.rules.specs.ListWords.{headerWords, productCount, primitiveCount, placeOf, productAt}
+use Rattle.rules.specs.Refusals.{refuseIf, refuseUnless}
+use Rattle.laws.specs.Answers.{checkedBy}
+use Rattle.laws.proofs.SoundLists.{first-append}
+use Rattle.answer.specs.Checks.{earlier, boundsBy}
+
+-- ---- tests
+
+pub if-not : (b : Bool) (number value : ℕ) → refuseIf (not b) number value ≡ refuseUnless b number value
+if-not true number value = refl
+if-not false number value = refl
+
+not-and : (a b : Bool) → (not a || not b) ≡ not (a && b)
+not-and true b = refl
+not-and false b = refl
+
+more-than : (a b : ℕ) → ltb a b ≡ not (leb b a)
+more-than a b = go (leb b a) refl
+  where
+    go : (t : Bool) → leb b a ≡ t → ltb a b ≡ not t
+    go true e = le-ltb a b (leb-true b a e)
+    go false e = lt-ltb a b (omega (arith, leb-false b a e))
+
+leb-same : (a b c d : ℕ) → (a ≤ b → c ≤ d) → (c ≤ d → a ≤ b) → leb a b ≡ leb c d
+leb-same a b c d f g = go (leb a b) refl
+  where
+    go : (t : Bool) → leb a b ≡ t → t ≡ leb c d
+    go true e = sym (le-leb c d (f (leb-true a b e)))
+    go false e = sym (lt-leb c d (turned (leb-false a b e)))
+      where
+        turned : b < a → d < c
+        turned h = by (leb c d) refl
+          where
+            by : (t : Bool) → leb c d ≡ t → d < c
+            by true k = let l = g (leb-true c d k) in absurd (omega (arith, l, h))
+            by false k = leb-false c d k
+
+-- one of two tests fails
+pub either-fails : (a b : Bool) (number value : ℕ) → refuseIf (not a || not b) number value ≡ refuseUnless (a && b) number value
+either-fails a b number value = ap (λ (t : Bool). refuseIf t number value) (not-and a b) ∙ if-not (a && b) number value
+
+-- ---- checks one after the other
+
+earlier-by : (x y : Option Refusal) → earlier (checkedBy x) (checkedBy y) ≡ checkedBy (orElse x y)
+earlier-by none y = refl
+earlier-by (some r) y = refl
+
+-- two checks by their rules
+pub in-turn : (xs ys : List (Option Refusal)) {a b r : Checked} → a ≡ checkedBy (firstOf xs) → b ≡ checkedBy (firstOf ys) → r ≡ earlier a b
+    → r ≡ checkedBy (firstOf (xs ++ ys))
+in-turn xs ys ha hb h = h ∙ ap₂ earlier ha hb ∙ earlier-by (firstOf xs) (firstOf ys) ∙ ap checkedBy (sym (first-append xs ys))
+
+-- a check by one rule
+pub alone : (x : Option Refusal) {a : Checked} → a ≡ checkedBy x → a ≡ checkedBy (firstOf (x ∷ []))
+unfolding firstOf
+alone x h = h ∙ ap checkedBy (or-else-none x)
+
+-- and two such
+pub one-two : (x y : Option Refusal) {a b r : Checked} → a ≡ checkedBy x → b ≡ checkedBy y → r ≡ earlier a b → r ≡ checkedBy (firstOf (x ∷ y ∷ []))
+one-two x y ha hb h = in-turn (x ∷ []) (y ∷ []) (alone x ha) (alone y hb) h
+
+-- ---- the header
+
+module _ (list : List ℕ) where
+  pub count-by : headerWords ≤ length list
+      → checkedBy (refuseIf (ltb 65536 (productCount list) || ltb ((length list - 8) / 2) (productCount list)) 9 0)
+      ≡ checkedBy (refuseUnless (countRight list) 9 0)
+  count-by long =
+      let n = productCount list in
+      let room : ltb ((length list - 8) / 2) n ≡ not (leb (placeOf n) (length list))
+      = more-than ((length list - 8) / 2) n ∙ ap not (leb-same n ((length list - 8) / 2) (placeOf n) (length list) (λ h. omega arith) (λ h. omega arith)) in
+      ap checkedBy (ap₂ (λ (a b : Bool). refuseIf (a || b) 9 0) (more-than 65536 n) room ∙ either-fails (leb n 65536) (leb (placeOf n) (length list)) 9 0)
+
+  pub primitives-by : checkedBy (refuseIf (ltb (primitiveCount list) 1 || ltb 64 (primitiveCount list)) 9 7) ≡ checkedBy (refuseUnless (primitivesRight list) 9 7)
+  primitives-by =
+      let n = primitiveCount list in
+      ap checkedBy (ap₂ (λ (a b : Bool). refuseIf (a || b) 9 7) (more-than n 1) (more-than 64 n) ∙ either-fails (leb 1 n) (leb n 64) 9 7)
+
+  -- words 0 to 7 in turn
+  pub header-by : {frames primitives late codes later columns latest count all : Checked}
+      → frames ≡ checkedBy (firstOf (boundsBy list 5 65535)) → primitives ≡ checkedBy (refuseUnless (primitivesRight list) 9 7) → late ≡ earlier frames primitives
+      → codes ≡ checkedBy (firstOf (boundsBy list 3 65535)) → later ≡ earlier codes late
+      → columns ≡ checkedBy (firstOf (boundsBy list 1 65535)) → latest ≡ earlier columns later
+      → count ≡ checkedBy (refuseUnless (countRight list) 9 0) → all ≡ earlier count latest
+      → all ≡ checkedBy (firstOf (headerRefusals list))
+  header-by frames primitives late codes later columns latest count all =
+      in-turn (counts ∷ []) (x ++ (y ++ (z ++ (last ∷ [])))) (alone counts count)
+      (in-turn x (y ++ (z ++ (last ∷ []))) columns (in-turn y (z ++ (last ∷ [])) codes (in-turn z (last ∷ []) frames (alone last primitives) late) later) latest) all
+    where
+      counts : Option Refusal
+      counts = refuseUnless (countRight list) 9 0
+
+      x : List (Option Refusal)
+      x = boundsBy list 1 65535
+
+      y : List (Option Refusal)
+      y = boundsBy list 3 65535
+
+      z : List (Option Refusal)
+      z = boundsBy list 5 65535
+
+      last : Option Refusal
+      last = refuseUnless (primitivesRight list) 9 7
+
+-- ---- products
+
+-- half of all sets of so many primitives: the next power of 2 below
+pub half-of : (n : ℕ) → 1 ≤ n → n ≤ 64 → let half = (1 * 2 ^ (n - 1)) % 18446744073709551616 in (1 ≤ half) × (half ≤ 9223372036854775808) × (half + half ≡ 2 ^ n)
+half-of n at-least few = (omega (arith, is, low), omega (arith, is, high), rw is whole)
+  where
+    m : ℕ
+    m = n - 1
+
+    is : (1 * 2 ^ m) % 18446744073709551616 ≡ 2 ^ m
+    is = one-shifted m (omega arith)
+
+    low : 1 ≤ 2 ^ m
+    low = pow-mono {i = 0} {j = m} (omega arith)
+
+    high : 2 ^ m ≤ 9223372036854775808
+    high = pow-mono {i = m} {j = 63} (omega arith)
+
+    whole : 2 ^ m + 2 ^ m ≡ 2 ^ n
+    whole =
+        let next : suc m ≡ n = omega arith in
+        omega (arith, pow-suc 2 m, ap (λ (k : ℕ). 2 ^ k) next)
+
+-- a set is of the first n primitives just if it is no greater than all of them together
+fits-by : (n all set : ℕ) → suc all ≡ 2 ^ n → ltb all set ≡ not (fits n set)
+fits-by n all set e = more-than all set ∙ ap not (sym (leb·suc-suc set all) ∙ ap (leb (suc set)) e)
+
+-- the two words of product k
+pub product-by : (list : List ℕ) (k all : ℕ) → suc all ≡ 2 ^ primitiveCount list → {c : Product} {plain cuts r : Checked} → c ≡ productAt list k
+    → plain ≡ checkedBy (refuseIf (eqb (c .plain) 0 || ltb all (c .plain)) 9 (placeOf k))
+    → cuts ≡ checkedBy (refuseIf (ltb all (c .cuts) || not (eqb (bitAnd (c .plain) (c .cuts)) 0)) 9 (placeOf k + 1))
+    → r ≡ earlier plain cuts → r ≡ checkedBy (firstOf (productRefusals list k))
+product-by list k all e {c} is plain cuts r =
+    one-two (refuseUnless (plainRight n d) 9 (placeOf k)) (refuseUnless (cutsRight n d) 9 (placeOf k + 1)) (plain ∙ ap checkedBy first) (cuts ∙ ap checkedBy second) r
+  where
+    n : ℕ
+    n = primitiveCount list
+
+    d : Product
+    d = productAt list k
+
+    first : refuseIf (eqb (c .plain) 0 || ltb all (c .plain)) 9 (placeOf k) ≡ refuseUnless (plainRight n d) 9 (placeOf k)
+    first =
+        ap (λ (x : Product). refuseIf (eqb (x .plain) 0 || ltb all (x .plain)) 9 (placeOf k)) is
+        ∙ ap₂ (λ (a b : Bool). refuseIf (a || b) 9 (placeOf k)) (sym (Bool·not-not (eqb (d .plain) 0))) (fits-by n all (d .plain) e)
+        ∙ either-fails (not (eqb (d .plain) 0)) (fits n (d .plain)) 9 (placeOf k)
+
+    second : refuseIf (ltb all (c .cuts) || not (eqb (bitAnd (c .plain) (c .cuts)) 0)) 9 (placeOf k + 1) ≡ refuseUnless (cutsRight n d) 9 (placeOf k + 1)
+    second =
+        ap (λ (x : Product). refuseIf (ltb all (x .cuts) || not (eqb (bitAnd (x .plain) (x .cuts)) 0)) 9 (placeOf k + 1)) is
+        ∙ ap (λ (a : Bool). refuseIf (a || not (eqb (bitAnd (d .plain) (d .cuts)) 0)) 9 (placeOf k + 1)) (fits-by n all (d .cuts) e)
+        ∙ either-fails (fits n (d .cuts)) (eqb (bitAnd (d .plain) (d .cuts)) 0) 9 (placeOf k + 1)

@@ -1,0 +1,5 @@
+pub mod Digits
+pub mod Signs
+pub mod Writing
+pub mod Scanning
+pub mod Reading

@@ -1,0 +1,213 @@
+// Numbers as text: writing one into a lent buffer, and reading the one that stands at a position of a text.
+ghost use Prim.Native.Nat.{_+_, _≤_, _<_};
+ghost use mathlib.Core.Bool.{true};
+ghost use mathlib.Core.List.{reverse};
+ghost use mathlib.Core.Path.{_≡_};
+ghost use lib.IntN.{pos, negℤ, natAbs};
+ghost use lib.ListN.{length, drop};
+ghost use Rattle.ground.specs.Tests.{Says};
+ghost use Rattle.rules.specs.Text.{numberText};
+ghost use Rattle.number.specs.Writing.{longDecimal, Collected, Put};
+ghost use Rattle.number.specs.Reading.{isDigit, ReadsNumber, grown, scanned, Confirmed};
+
+// Whether a number stands at a position; then which one, and the position after it.
+pub struct Number {
+    pub right: bool,
+    pub value: i32,
+    pub next: usize,
+}
+
+// What a run of digits is worth, and the position after it.
+pub struct Run {
+    pub value: u64,
+    pub next: usize,
+}
+
+// How many digits a number has.
+pub fn decimal_length(n: u64) -> usize
+    ensures { λ r. ⌜ r ≡ length (longDecimal n) ⌝ }
+{
+    let mut digits: usize = 1;
+    let mut left = n;
+    while 10 <= left {
+        left = left / 10;
+        digits += 1;
+    }
+    digits
+}
+
+// A number's distance from 0: in 64 bits, since that of the least number is past the greatest of 32.
+fn magnitude(v: i32) -> u64
+    ensures { λ r. ⌜ r ≡ natAbs v ⌝ }
+{
+    if v < 0 {
+        return (-(v as i64)) as u64;
+    }
+    v as u64
+}
+
+// How many bytes a number's text has.
+pub fn number_length(v: i32) -> usize
+    ensures { λ r. ⌜ r ≡ length (numberText v) ⌝ }
+{
+    let digits = decimal_length(magnitude(v));
+    if v < 0 {
+        return digits + 1;
+    }
+    digits
+}
+
+// Collects the digits of a number, the last one first, and answers how many there are.
+fn collect_digits(digits: &mut [u8], n: u64) -> usize
+    requires { ⌜ length (longDecimal n) ≤ length (now digits) ⌝ }
+    ensures { λ r. ⌜ Collected n (now (digits .exit)) r ⌝ }
+{
+    let mut count = 0;
+    let mut left = n;
+    while 10 <= left {
+        digits[count] = b'0' + ((left % 10) as u8);
+        count += 1;
+        left = left / 10;
+    }
+    digits[count] = b'0' + (left as u8);
+    count + 1
+}
+
+// Copies bytes into a text from the last to the first, and answers the position after them.
+fn turn_round(text: &mut [u8], at: usize, bytes: &[u8]) -> usize
+    requires { ⌜ at + length (now bytes) ≤ length (now text) ⌝ }
+    ensures { λ r. ⌜ Put (now (text .entry)) at (reverse (now (bytes .entry))) (now (text .exit)) r ⌝ }
+{
+    let mut next = at;
+    let mut left = bytes.len();
+    while 0 < left {
+        left -= 1;
+        text[next] = bytes[left];
+        next += 1;
+    }
+    next
+}
+
+// Writes a number without a sign, and answers the position after it: its digits are collected, and turned round.
+pub fn put_decimal(text: &mut [u8], at: usize, n: u64) -> usize
+    requires { ⌜ at + length (longDecimal n) ≤ length (now text) ⌝ }
+    ensures { λ r. ⌜ Put (now (text .entry)) at (longDecimal n) (now (text .exit)) r ⌝ }
+{
+    let mut digits: [u8; 20] = [0; 20];
+    let count = collect_digits(&mut digits, n);
+    turn_round(text, at, &digits[..count])
+}
+
+// Writes a number, with a minus before a negative, and answers the position after it.
+pub fn put_number(text: &mut [u8], at: usize, v: i32) -> usize
+    requires { ⌜ at + length (numberText v) ≤ length (now text) ⌝ }
+    ensures { λ r. ⌜ Put (now (text .entry)) at (numberText v) (now (text .exit)) r ⌝ }
+{
+    let n = magnitude(v);
+    if v < 0 {
+        text[at] = b'-';
+        return put_decimal(text, at + 1, n);
+    }
+    put_decimal(text, at, n)
+}
+
+fn is_digit(b: u8) -> bool
+    ensures { λ r. ⌜ r ≡ isDigit b ⌝ }
+{
+    (b'0' <= b) & (b <= b'9')
+}
+
+// What digits are worth with one more. What has ten digits stays as it is: a longer run is no 32-bit number.
+fn grow(v: u64, b: u8) -> u64
+    requires { ⌜ (v < 10000000000) × (isDigit b ≡ true) ⌝ }
+    ensures { λ r. ⌜ (r ≡ grown v b) × (r < 10000000000) ⌝ }
+{
+    if v < 1000000000 {
+        return v * 10 + ((b - b'0') as u64);
+    }
+    v
+}
+
+// The digits that stand at a position.
+fn read_digits(text: &[u8], at: usize) -> Run
+    ensures { λ r. ⌜ r ≡ scanned 0 at (drop at (now (text .entry))) ⌝ }
+{
+    let mut value: u64 = 0;
+    let mut next = at;
+    while next < text.len() {
+        let b = text[next];
+        if !is_digit(b) {
+            return Run { value, next };
+        }
+        value = grow(value, b);
+        next += 1;
+    }
+    Run { value, next }
+}
+
+// The number of that magnitude; 0 where that is past 32 bits, which `confirm` then turns down.
+fn positive(n: u64) -> i32
+    ensures { λ r. ⌜ (n < 2147483648 → r ≡ pos n) ⌝ }
+{
+    if n <= 2147483647 {
+        return n as i32;
+    }
+    0
+}
+
+// The same with a minus.
+fn negative(n: u64) -> i32
+    ensures { λ r. ⌜ (n ≤ 2147483648 → r ≡ negℤ (pos n)) ⌝ }
+{
+    if n <= 2147483648 {
+        return (-(n as i64)) as i32;
+    }
+    0
+}
+
+// Whether two runs of bytes are the same.
+pub fn same(a: &[u8], b: &[u8]) -> bool
+    ensures { λ r. ⌜ Says r (now (a .entry) ≡ now (b .entry)) ⌝ }
+{
+    if a.len() != b.len() {
+        return false;
+    }
+    let mut i = 0;
+    while i < a.len() {
+        if a[i] != b[i] {
+            return false;
+        }
+        i += 1;
+    }
+    true
+}
+
+// The guess, right just if the text up to `next` is its own: so no leading zero, no spare sign, no digit too many gets through.
+fn confirm(text: &[u8], at: usize, next: usize, value: i32) -> Number
+    requires { ⌜ (at ≤ next) × (next ≤ length (now text)) ⌝ }
+    ensures { λ r. ⌜ Confirmed (now (text .entry)) at next value r ⌝ }
+{
+    let mut own: [u8; 11] = [0; 11];
+    let size = put_number(&mut own, 0, value);
+    let right = same(&text[at..next], &own[..size]);
+    Number { right, value, next }
+}
+
+// The number that stands at a position and ends before the next byte that is no digit: guessed from its digits, then confirmed.
+pub fn read_number(text: &[u8], at: usize) -> Number
+    ensures { λ r. ⌜ ReadsNumber (now (text .entry)) at r ⌝ }
+{
+    if text.len() <= at {
+        return Number {
+            right: false,
+            value: 0,
+            next: at,
+        };
+    }
+    if text[at] == b'-' {
+        let below = read_digits(text, at + 1);
+        return confirm(text, at, below.next, negative(below.value));
+    }
+    let run = read_digits(text, at);
+    confirm(text, at, run.next, positive(run.value))
+}
