@@ -30,6 +30,7 @@ use Rattle.rules.specs.Told.{Tale, Told, fine, refused, tell, toldLocated, told
 use Rattle.rules.specs.TreeCalls.{pointRefusal, pointTale, searchTale}
 use Rattle.rules.specs.Verdict.{tableRefusal}
 use Rattle.laws.specs.Answers.{checkedBy}
+use Rattle.laws.proofs.Answering.{checks-pass}
 use Rattle.laws.proofs.Answers.{told-now, told-later, told-fine}
 use Rattle.laws.proofs.SoundLists.{first-append, first-rulings}
 use Rattle.laws.proofs.Soundness.{unless-kept}
@@ -98,10 +99,7 @@ module _ (t : List ℤ) (list : List ℕ) where
       sym (ap (λ (x : Option Refusal). tell x tale) (first-append rules more ∙ ap (λ (x : Option Refusal). orElse x (firstOf more)) h))
 
   goes-on : Accepted t list → (more : List (Option Refusal)) (tale : Tale) {told : Told} → told ≡ tell (firstOf more) tale → told ≡ tell (firstOf (rules ++ more)) tale
-  goes-on A more tale e =
-      told-later (tableRefusal t) (listRefusal list ∷ primitivesRefusal (primitives t) list ∷ more) tale (A .table)
-      (told-later (listRefusal list) (primitivesRefusal (primitives t) list ∷ more) tale (A .listed)
-      (told-later (primitivesRefusal (primitives t) list) more tale (A .counts) e))
+  goes-on A more tale e = e ∙ sym (ap (λ (x : Option Refusal). tell x tale) (checks-pass t list (A .table) (A .listed) (A .counts) more))
 
   module _ (p : Point) where
     abbrev answer : Tale

@@ -104,7 +104,8 @@ fn all_of(primitives: u64) -> u64
     half + (half - 1)
 }
 
-fn product_at(list: &[u64], k: usize) -> Product
+// Product k of a list.
+pub fn product_at(list: &[u64], k: usize) -> Product
     requires { ⌜ placeOf (k + 1) ≤ length (now list) ⌝ }
     ensures { λ r. ⌜ r ≡ productAt (now (list .entry)) k ⌝ }
 {
@@ -133,16 +134,16 @@ fn check_products(list: &[u64], products: usize, all: u64) -> Checked
     requires { ⌜ suc all ≡ 2 ^ primitiveCount (now list) ⌝ }
     ensures { λ r. ⌜ r ≡ checkedBy (rulings (λ k. firstOf (productRefusals (now (list .entry)) k)) 0 products) ⌝ }
 {
-    let mut k: usize = 0;
-    while k < products {
-        let checked = check_product(list, k, all);
+    let mut n: usize = 1;
+    while n <= products {
+        let checked = check_product(list, n - 1, all);
         match checked {
             Checked::Refused(refusal) => {
                 return Checked::Refused(refusal);
             }
             Checked::Sound => {}
         }
-        k += 1;
+        n += 1;
     }
     Checked::Sound
 }

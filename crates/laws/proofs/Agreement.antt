@@ -34,6 +34,7 @@ use Rattle.rules.specs.Products.{boxOf}
 use Rattle.rules.specs.ListInside.{insideProduct}
 use Rattle.laws.specs.Sound.{solidRight}
 use Rattle.laws.proofs.Ranges.{rx-in, ry-in}
+use Rattle.laws.proofs.Spaces.{and-swap}
 
 -- ---- tests
 
@@ -44,11 +45,6 @@ not-or false b = refl
 not-and : (a b : Bool) → not (a && b) ≡ (not a || not b)
 not-and true b = refl
 not-and false b = refl
-
-pairs-turned : (a b c d : Bool) → ((a && b) && (c && d)) ≡ ((a && c) && (b && d))
-pairs-turned true b true d = refl
-pairs-turned true b false d = and-false b
-pairs-turned false b c d = refl
 
 -- ---- the elements at the places of a set
 
@@ -82,7 +78,7 @@ module _ {A : Type 0} (test : A → Bool) where
       ∙ picked (odd a || odd b) (selected (bitOr (a / 2) (b / 2)) xs)
       ∙ ap (λ (r : Bool). asked (odd a || odd b) && r) (all-of-both xs (a / 2) (b / 2))
       ∙ ap (λ (r : Bool). r && (all test (selected (a / 2) xs) && all test (selected (b / 2) xs))) (either (odd a) (odd b) (test x))
-      ∙ pairs-turned (asked (odd a)) (asked (odd b)) (all test (selected (a / 2) xs)) (all test (selected (b / 2) xs))
+      ∙ and-swap (asked (odd a)) (asked (odd b)) (all test (selected (a / 2) xs)) (all test (selected (b / 2) xs))
       ∙ sym (ap₂ _&&_ (picked (odd a) (selected (a / 2) xs)) (picked (odd b) (selected (b / 2) xs)))
     where
       asked : Bool → Bool
@@ -153,7 +149,7 @@ module _ (solids : List Primitive) (p : Point) where
   holding-joined a b =
       by-all (joined a b)
       ∙ ap₂ _&&_ (all-of-both in-it solids (a .plain) (b .plain)) (all-of-both out-of-it solids (a .cuts) (b .cuts))
-      ∙ pairs-turned (all in-it (selected (a .plain) solids)) (all in-it (selected (b .plain) solids))
+      ∙ and-swap (all in-it (selected (a .plain) solids)) (all in-it (selected (b .plain) solids))
       (all out-of-it (selected (a .cuts) solids)) (all out-of-it (selected (b .cuts) solids))
       ∙ sym (ap₂ _&&_ (by-all a) (by-all b))
 

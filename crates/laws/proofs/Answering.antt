@@ -1,18 +1,18 @@
 -- A list that was made answers as the tree does at every point of its window, and refuses every other point. Assumes nothing.
 use Prim.Native.Nat.{ℕ, zero, suc, _+_, _≤_, _<_}
-use native.Mathlib.Nat.{add-zero, zero-add, le-refl}
+use native.Mathlib.Nat.{le-refl}
 use native.Mathlib.Numerals.{add-one}
 use native.Mathlib.Omega.{arith}
 use mathlib.Core.Bool.{Bool, true, false, _&&_, _||_}
-use mathlib.Core.List.{List, [], _∷_, _++_, map}
+use mathlib.Core.List.{List, [], _∷_, _++_}
 use mathlib.Core.Option.{Option, none, some}
 use mathlib.Core.Path.{_≡_, refl, sym, ap, ap₂, _∙_}
 use borrow.Author.Tests.{leb-true}
 use lib.Dec.{leb}
 use lib.IntN.{ℤ}
-use lib.ListN.{length, getD, drop}
+use lib.ListN.{length, drop}
 use lib.Signed.{leZ}
-use Rattle.ground.specs.Lists.{All, from, below, any, countIf, findIf, orElse, firstOf, rulings}
+use Rattle.ground.specs.Lists.{All, below, any, countIf, findIf, orElse, firstOf, rulings}
 use Rattle.ground.specs.Tests.{if_then_else_}
 use Rattle.ground.proofs.Branches.{false-true, and-left, and-right}
 use Rattle.ground.proofs.Counting.{numbers-below, kept, all-kept, or-else-none, first-kept}
@@ -34,17 +34,15 @@ use Rattle.rules.specs.Inside.{inside}
 use Rattle.rules.specs.ListCalls.{mostChoices, windowRefusal, choicesRefusal, zoneList, makeRefusal, ListMade, listPointRefusal, ListLocated, listSearchRefusal, ListSearched}
 use Rattle.rules.specs.ListFaults.{listRefusal, primitivesRefusal}
 use Rattle.rules.specs.ListInside.{insideProduct, insideList}
-use Rattle.rules.specs.ListWords.{listOf, listWindow, productAt, productsIn}
-use Rattle.rules.specs.Products.{products}
+use Rattle.rules.specs.ListWords.{listWindow}
 use Rattle.rules.specs.Ranges.{Span, within, columns, codes, frames}
 use Rattle.rules.specs.Refusals.{refuse, refuseUnless}
 use Rattle.rules.specs.Table.{primitives}
-use Rattle.rules.specs.Told.{Told, wrote, fine, tell}
+use Rattle.rules.specs.Told.{tell}
 use Rattle.rules.specs.Tree.{treeOf}
 use Rattle.rules.specs.TreeCalls.{axisRefusal, pointRefusal, pointTale, searchTale, treePointRefusal, TreeLocated, treeSearchRefusal, TreeSearched}
 use Rattle.rules.specs.Verdict.{tableRefusal}
-use Rattle.rules.proofs.Told.{located-once, searched-once}
-use Rattle.laws.specs.Listed.{nothing}
+use Rattle.rules.proofs.Told.{located-once, searched-once, wrote-none}
 use Rattle.laws.specs.Sound.{Sound}
 use Rattle.laws.proofs.Answers.{holds-point}
 use Rattle.laws.proofs.Made.{made-window, made-accepted, made-sound}
@@ -54,7 +52,7 @@ use Rattle.laws.proofs.Pruning.{held-axes, pruning-keeps, primitives-ri
 use Rattle.laws.proofs.Soundness.{unless-kept, table-sound}
 use Rattle.laws.proofs.Spaces.{by-axis}
 use Rattle.laws.proofs.Windows.{Bounds, window-right}
-use Rattle.laws.proofs.Words.{list-product}
+use Rattle.laws.proofs.Words.{zone-products}
 
 -- ---- rules in order
 
@@ -123,22 +121,6 @@ module _ (f g : Point → Bool) (samples : List ℤ) (place : Place)
       ap₂ searchTale (find-same (sampleInside f samples place) (sampleInside g samples place) (below (length samples)) each-sample)
       (count-same (sampleInside f samples place) (sampleInside g samples place) (below (length samples)) each-sample)
 
--- ---- the words of a list, read back
-
-read-each : {A : Type 0} (f : ℕ → A) (d : A) (xs : List A) (start : ℕ) → ((k : ℕ) → k < length xs → f (start + k) ≡ getD xs k d)
-    → map f (from start (length xs)) ≡ xs
-unfolding from
-read-each f d [] start h = refl
-read-each f d (x ∷ xs) start h = λ i. (ap f (sym (add-zero start)) ∙ h 0 (omega arith)) i ∷ read-each f d xs (suc start) later i
-  where
-    later : (k : ℕ) → k < length xs → f (suc start + k) ≡ getD xs k d
-    later k l = let on : suc start + k ≡ start + suc k = omega arith in ap f on ∙ h (suc k) (omega arith)
-
-products-back : (w : Window) (count : ℕ) (ps : List Product) (rest : List ℕ) → productsIn (listOf w count ps ++ rest) ≡ ps
-products-back w count ps rest =
-    let list = listOf w count ps ++ rest in
-    read-each (productAt list) nothing ps 0 (λ k l. ap (productAt list) (zero-add k) ∙ list-product w count ps rest nothing k l)
-
 -- ---- a window that was accepted
 
 bounds-in : (s : Span) (lo hi v : ℤ) → Bounds s lo hi → within (record { lo = lo; hi = hi }) v ≡ true → within s v ≡ true
@@ -157,13 +139,9 @@ window-in-range w e p h =
 
 -- ---- a list that was made
 
-wrote-fine : (x : Option Refusal) (m n : ℕ) → fine (wrote n) ≡ tell x (wrote m) → x ≡ none
-wrote-fine none m n e = refl
-wrote-fine (some r) m n e = let tale = ap (λ (told : Told). told .tale) e in cc
-
 module _ (t : List ℤ) (w : Window) (before after : List ℕ) (n : ℕ) (made : ListMade t w before after (written.Wrote n)) where
   accepted : makeRefusal t w (length before) ≡ none
-  accepted = wrote-fine (makeRefusal t w (length before)) (length (zoneList t w)) n (made .answer)
+  accepted = wrote-none (makeRefusal t w (length before)) (length (zoneList t w)) n (made .answer) .0
 
   table-fine : tableRefusal t ≡ none
   table-fine = first-kept (tableRefusal t) _ accepted .0
@@ -196,12 +174,12 @@ module _ (t : List ℤ) (w : Window) (before after : List ℕ) (n : ℕ) (made :
 
   -- at every point of the window it says what the tree says
   pub list-is-tree : (p : Point) → holds (windowBox w) p ≡ true → insideList (primitives t) after p ≡ inside (treeOf t) p
-  unfolding insideList zoneList
+  unfolding insideList
   list-is-tree p held =
       let solids = primitives t in
       let holding : Product → Bool = λ c. insideProduct solids c p in
       ap (λ (list : List ℕ). insideList solids list p) is-list
-      ∙ ap (any holding) (products-back w (length solids) (products w solids (treeOf t)) beyond)
+      ∙ ap (any holding) (zone-products t w beyond)
       ∙ pruning-keeps w solids (primitives-right t sound) p held (treeOf t)
       ∙ sym (tree-choices t sound p)
 

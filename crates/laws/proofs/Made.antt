@@ -25,7 +25,7 @@ use Rattle.rules.specs.Boxes.{windowBox}
 use Rattle.rules.specs.Choices.{inOf, outOf, expansion}
 use Rattle.rules.specs.ListCalls.{mostChoices, windowRefusal, zoneList}
 use Rattle.rules.specs.ListFaults.{boundsRefusals, plainRight, cutsRight, productRefusals, listRefusal, primitivesRefusal}
-use Rattle.rules.specs.ListWords.{raised, lowered, word, listOf, listWindow, productCount, primitiveCount, placeOf, productAt}
+use Rattle.rules.specs.ListWords.{raised, lowered, word, listOf, listWindow, productCount, placeOf, productAt}
 use Rattle.rules.specs.Products.{products}
 use Rattle.rules.specs.Ranges.{within, columns}
 use Rattle.rules.specs.Refusals.{refuseIf, refuseUnless}

@@ -1,37 +1,25 @@
 -- How long a text can be: a number has at most 11 bytes and a line at most 126, so the text of 127 rows is not too long. Assumes nothing.
-use Prim.Native.Nat.{ℕ, zero, suc, _/_, _%_, _≤_}
+use Prim.Native.Nat.{suc, _≤_}
 use native.Mathlib.Omega.{arith}
-use mathlib.Core.Bool.{Bool, true, false}
-use mathlib.Core.List.{List, [], _∷_, _++_}
+use mathlib.Core.List.{List}
 use mathlib.Core.Path.{_≡_}
-use lib.Dec.{ltb}
 use lib.IntN.{ℤ, pos, negsuc}
 use lib.ListN.{length, length-append}
 use Rattle.ground.specs.Lists.{All}
-use Rattle.ground.specs.Tests.{if_then_else_}
 use Rattle.ground.proofs.Lists.{all-map}
 use Rattle.ground.proofs.Pieces.{all-each, pieces-most}
 use Rattle.rules.specs.declared.Kind.{Kind}
 use Rattle.rules.specs.declared.Kind.the-variants.{Box, Wedge, Drum, Union, Inter, Diff}
 use Rattle.rules.specs.Kinds.{namedWords}
 use Rattle.rules.specs.Table.{mostRows}
-use Rattle.rules.specs.Text.{digit, decimalIn, kindName, TextRow, fieldText, lineOf, textOf}
+use Rattle.rules.specs.Text.{kindName, TextRow, fieldText, lineOf, textOf}
 use Rattle.rules.specs.TextForm.{mostBytes}
-
-decimal-most : (most n : ℕ) → length (decimalIn most n) ≤ most
-unfolding decimalIn
-decimal-most zero n = omega arith
-decimal-most (suc most) n = go (ltb n 10) (decimal-most most (n / 10))
-  where
-    go : (b : Bool) → length (decimalIn most (n / 10)) ≤ most
-        → length (if b then digit n ∷ [] else decimalIn most (n / 10) ++ (digit (n % 10) ∷ [])) ≤ suc most
-    go true h = omega arith
-    go false h = simp length-append (omega arith)
+use Rattle.rules.proofs.Numbers.{few-digits}
 
 -- a tab, and at most a minus and ten digits
 field-most : (v : ℤ) → length (fieldText v) ≤ 12
-field-most (pos n) = omega (arith, decimal-most 10 n)
-field-most (negsuc n) = omega (arith, decimal-most 10 (suc n))
+field-most (pos n) = omega (arith, few-digits 10 n)
+field-most (negsuc n) = omega (arith, few-digits 10 (suc n))
 
 name-most : (k : Kind) → length (kindName k) ≤ 5
 name-most Box = omega arith
@@ -61,4 +49,4 @@ line-most row named =
 pub text-most : (rows : List TextRow) → All Named rows → length rows ≤ mostRows → length (textOf rows) ≤ mostBytes
 text-most rows named few =
     let lines = pieces-most lineOf 126 rows (all-map Named (λ row. length (lineOf row) ≤ 126) line-most rows named) in
-    simp length-append (omega (arith, lines, decimal-most 10 (length rows)))
+    simp length-append (omega (arith, lines, few-digits 10 (length rows)))

@@ -29,11 +29,11 @@ use Rattle.rules.specs.Table.{rowWords, rowCount, wordAt, kindAt}
 use Rattle.rules.specs.Text.{TextRow, textOf, textRowBy, textRows, tableRow, tableOf}
 use Rattle.rules.specs.TextCalls.{tableRead, formRefusal, readRefusal, TextRead, tableText, writeRefusal, TextWritten}
 use Rattle.rules.specs.TextForm.{mostBytes, Word32, RightRow, TextForm, too-long, faulty, spelt}
-use Rattle.rules.specs.Told.{Told, fine, wrote, tell, toldWritten}
+use Rattle.rules.specs.Told.{fine, wrote, tell, toldWritten}
 use Rattle.rules.specs.Verdict.{lengthRefusal, rowRefusalBy, rowRefusal, rowsRefusal, tableRefusal}
 use Rattle.rules.proofs.Lines.{noRow}
 use Rattle.rules.proofs.Settled.{form-once}
-use Rattle.rules.proofs.Told.{written-once}
+use Rattle.rules.proofs.Told.{written-once, wrote-none}
 use Rattle.laws.proofs.Apart.{next-row}
 use Rattle.laws.proofs.Numbering.{number-kind, kind-number}
 use Rattle.laws.proofs.Soundness.{unless-kept, table-sound}
@@ -130,7 +130,7 @@ module _ (rows : List TextRow) (named : All Named rows) where
   even : All (λ row. length (tableRow row) ≡ rowWords) rows
   even = all-map Named (λ row. length (tableRow row) ≡ rowWords) row-length rows named
 
-  table-length : length (tableOf rows) ≡ length rows * rowWords
+  pub table-length : length (tableOf rows) ≡ length rows * rowWords
   table-length = pieces-length tableRow rowWords rows even
 
   -- rows that were put into a table are read from it again
@@ -204,16 +204,11 @@ none-wrote x result before {r = r} answer buffer e = (
 )
 
 -- and where it wrote, x was none
-wrote-none : {A : Type 0} (x : Option Refusal) (result before : List A) {after : List A} {n : ℕ}
+pub wrote-result : {A : Type 0} (x : Option Refusal) (result before : List A) {after : List A} {n : ℕ}
     → fine (wrote n) ≡ tell x (wrote (length result)) → after ≡ leave x result before → (x ≡ none) × (take n after ≡ result)
-wrote-none none result before {n = n} answer buffer =
-    let tale = ap (λ (told : Told). told .tale) answer in
-    let all : length result ≡ n = cc in
-    (refl, ap (take n) buffer ∙ take-at result _ n all)
-wrote-none (some q) result before answer buffer =
-    let tale = ap (λ (told : Told). told .tale) answer in
-    let z : _≡_ {A = ℕ} 0 1 = cc in
-    absurd (omega arith)
+wrote-result x result before {n = n} answer buffer =
+    let (e, size) = wrote-none x (length result) n answer in
+    (e, ap (take n) (buffer ∙ ap (λ (y : Option Refusal). leave y result before) e) ∙ take-at result _ n (sym size))
 
 -- an accepted text is the text of the table that is read from it
 spelt-back : {text : List ℕ} (form : TextForm text) → formRefusal form ≡ none → tableText (tableRead form) ≡ text
@@ -245,7 +240,7 @@ read-fine : {text : List ℕ} (form : TextForm text) (room : ℕ) → formRefusa
 unfolding firstOf
 read-fine form room accepted kept fits = rw (accepted, kept, le-leb (length (tableRead form)) room fits)
 
-write-fine : (t : List ℤ) (room : ℕ) → tableRefusal t ≡ none → length (tableText t) ≤ room → writeRefusal t room ≡ none
+pub write-fine : (t : List ℤ) (room : ℕ) → tableRefusal t ≡ none → length (tableText t) ≤ room → writeRefusal t room ≡ none
 unfolding firstOf
 write-fine t room kept fits = rw (kept, le-leb (length (tableText t)) room fits)
 
@@ -255,7 +250,7 @@ pub table-text-table : {t : List ℤ} {before text : List ℕ} {n : ℕ} → All
     → (r ≡ Wrote (length t)) × (take (length t) after ≡ t)
 table-text-table {t} {before} fit written {room} {after} {r} read fits =
     let form = read .form in
-    let done = wrote-none (writeRefusal t (length before)) (tableText t) before (written .answer) (written .buffer) in
+    let done = wrote-result (writeRefusal t (length before)) (tableText t) before (written .answer) (written .buffer) in
     let kept = first-kept (tableRefusal t) _ (done .0) .0 in
     let accepted = text-accepted form t fit kept (done .1) in
     let same : tableRead form ≡ t = accepted .1 in
@@ -270,7 +265,7 @@ pub text-table-text : {text : List ℕ} {room table : List ℤ} {m : ℕ} → Te
 text-table-text {text} {room} {table} {m} read {before} {after} {r} written fits =
     let form = read .form in
     let t = take m table in
-    let done = wrote-none (readRefusal form (length room)) (tableRead form) room (read .answer) (read .buffer) in
+    let done = wrote-result (readRefusal form (length room)) (tableRead form) room (read .answer) (read .buffer) in
     let accepted = first-kept (formRefusal form) _ (done .0) in
     let kept = first-kept (tableRefusal (tableRead form)) _ (accepted .1) .0 in
     let same : tableText t ≡ text = ap tableText (done .1) ∙ spelt-back form (accepted .0) in

@@ -1,14 +1,21 @@
--- The words of a list, read back: its length, the number of its products, and each of them. Assumes nothing.
+-- The words of a list, read back: its length, the number of its products, each of them, and all those of a zone. Assumes nothing.
 use Prim.Native.Nat.{ℕ, zero, suc, _+_, _*_, _<_}
 use native.Mathlib.Nat.{not-suc-le-zero, le-of-suc-le-suc}
 use native.Mathlib.Omega.{arith}
 use mathlib.Core.List.{List, [], _∷_, _++_, flatMap}
 use mathlib.Core.Path.{_≡_, refl, ap, _∙_}
+use lib.IntN.{ℤ}
 use lib.ListN.{length, getD, length-append}
 use lib.Seq.{getD-append-add}
+use Rattle.ground.proofs.Pieces.{map-places}
 use Rattle.rules.specs.declared.Product.{Product}
 use Rattle.rules.specs.declared.Window.{Window}
-use Rattle.rules.specs.ListWords.{headerOf, wordsOf, listOf, word, productCount, placeOf, productAt}
+use Rattle.rules.specs.ListCalls.{zoneList}
+use Rattle.rules.specs.ListWords.{headerOf, wordsOf, listOf, word, productCount, placeOf, productAt, productsIn}
+use Rattle.rules.specs.Products.{products}
+use Rattle.rules.specs.Table.{primitives}
+use Rattle.rules.specs.Tree.{treeOf}
+use Rattle.laws.specs.Listed.{nothing}
 
 words-length : (ps : List Product) → length (flatMap wordsOf ps) ≡ 2 * length ps
 unfolding flatMap
@@ -55,3 +62,10 @@ module _ (w : Window) (primitiveCount : ℕ) (ps : List Product) where
         cuts =
             let after : placeOf k + 1 ≡ 8 + (2 * k + 1) = omega arith in
             ap (word (listOf w primitiveCount ps ++ rest)) after ∙ past (2 * k + 1) ∙ cuts-at rest d ps k l
+
+    list-products : productsIn (listOf w primitiveCount ps ++ rest) ≡ ps
+    list-products = map-places (productAt (listOf w primitiveCount ps ++ rest)) nothing ps (list-product nothing)
+
+pub zone-products : (t : List ℤ) (w : Window) (rest : List ℕ) → productsIn (zoneList t w ++ rest) ≡ products w (primitives t) (treeOf t)
+unfolding zoneList
+zone-products t w rest = list-products w (length (primitives t)) (products w (primitives t) (treeOf t)) rest

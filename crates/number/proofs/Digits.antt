@@ -11,7 +11,8 @@ use lib.IntN.{ℤ, pos, negsuc}
 use lib.ListN.{length, length-append}
 use Rattle.ground.specs.Tests.{if_then_else_}
 use Rattle.rules.specs.Text.{digit, decimalIn, decimal, numberText}
-use Rattle.number.specs.Writing.{longDecimal}
+use Rattle.rules.proofs.Numbers.{few-digits}
+use Rattle.rules.specs.Listing.{wordText}
 
 -- a number that has few digits is written alike where more are allowed
 wider : (fewer most n : ℕ) → fewer ≤ most → n < 10 ^ suc fewer → decimalIn (suc most) n ≡ decimalIn (suc fewer) n
@@ -22,34 +23,23 @@ wider (suc fewer) (suc most) n l h =
     let less : n < 10 ^ suc fewer * 10 = rw (pow-suc 10 (suc fewer)) at h in
     ap (λ (ds : List ℕ). if ltb n 10 then digit n ∷ [] else ds ++ (digit (n % 10) ∷ [])) (wider fewer most (n / 10) (omega arith) (omega arith))
 
-pub long-decimal : (n : ℕ) → n < 10 ^ 10 → longDecimal n ≡ decimal n
+pub long-decimal : (n : ℕ) → n < 10 ^ 10 → wordText n ≡ decimal n
 long-decimal n h = wider 9 19 n (omega arith) h
 
 -- one digit, and one digit more
-pub one-digit : (n : ℕ) → n < 10 → longDecimal n ≡ digit n ∷ []
+pub one-digit : (n : ℕ) → n < 10 → wordText n ≡ digit n ∷ []
 unfolding decimalIn
 one-digit n h = rw (lt-ltb n 10 h)
 
-pub last-digit : (n : ℕ) → 10 ≤ n → n < 10 ^ 20 → longDecimal n ≡ longDecimal (n / 10) ++ (digit (n % 10) ∷ [])
+pub last-digit : (n : ℕ) → 10 ≤ n → n < 10 ^ 20 → wordText n ≡ wordText (n / 10) ++ (digit (n % 10) ∷ [])
 unfolding decimalIn
 last-digit n h l =
     let others : n / 10 < 10 ^ 19 = omega arith in
     ap (λ (b : Bool). if b then digit n ∷ [] else decimalIn 19 (n / 10) ++ (digit (n % 10) ∷ [])) (le-ltb n 10 h)
     ∙ ap (λ (ds : List ℕ). ds ++ (digit (n % 10) ∷ [])) (sym (wider 18 19 (n / 10) (omega arith) others))
 
-pub more-digits : (n : ℕ) → 10 ≤ n → n < 10 ^ 20 → length (longDecimal n) ≡ length (longDecimal (n / 10)) + 1
-more-digits n h l = ap length (last-digit n h l) ∙ length-append (longDecimal (n / 10)) (digit (n % 10) ∷ [])
-
--- no more digits than are allowed
-pub few-digits : (most n : ℕ) → length (decimalIn most n) ≤ most
-unfolding decimalIn
-few-digits zero n = omega arith
-few-digits (suc most) n = go (ltb n 10) (few-digits most (n / 10))
-  where
-    go : (b : Bool) → length (decimalIn most (n / 10)) ≤ most
-        → length (if b then digit n ∷ [] else decimalIn most (n / 10) ++ (digit (n % 10) ∷ [])) ≤ suc most
-    go true h = omega arith
-    go false h = omega (arith, length-append (decimalIn most (n / 10)) (digit (n % 10) ∷ []))
+pub more-digits : (n : ℕ) → 10 ≤ n → n < 10 ^ 20 → length (wordText n) ≡ length (wordText (n / 10)) + 1
+more-digits n h l = ap length (last-digit n h l) ∙ length-append (wordText (n / 10)) (digit (n % 10) ∷ [])
 
 -- some digit, and so some byte
 pub some-digit : (most n : ℕ) → 0 < length (decimalIn (suc most) n)

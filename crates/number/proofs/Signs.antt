@@ -15,7 +15,7 @@ use mir.ValLaws.{toZ-ofZ}
 use Rattle.ground.proofs.Branches.{false-true}
 use Rattle.ground.proofs.Num.{Num, Fit, unsigned, sub-fits, sub-num}
 use Rattle.rules.specs.Text.{minus, numberText}
-use Rattle.number.specs.Writing.{longDecimal}
+use Rattle.rules.specs.Listing.{wordText}
 use Rattle.number.proofs.Digits.{long-decimal}
 
 -- the negative of a number, as code has it: 0 less the number
@@ -41,11 +41,11 @@ pub not-negative : (z : ℤ) → ltZ z (pos 0) ≡ false → T (nonNeg z)
 not-negative (pos n) h = tt
 not-negative (negsuc n) h = false-true (sym h)
 
-below-text : (z : ℤ) → mag z < 2147483648 → ltZ z (pos 0) ≡ true → numberText z ≡ minus ∷ longDecimal (natAbs z)
+below-text : (z : ℤ) → mag z < 2147483648 → ltZ z (pos 0) ≡ true → numberText z ≡ minus ∷ wordText (natAbs z)
 below-text (pos k) l h = absurd (not-below k h)
 below-text (negsuc k) l h = ap (λ (ds : List ℕ). minus ∷ ds) (sym (long-decimal (suc k) (omega arith)))
 
-above-text : (z : ℤ) → mag z < 2147483648 → ltZ z (pos 0) ≡ false → numberText z ≡ longDecimal (natAbs z)
+above-text : (z : ℤ) → mag z < 2147483648 → ltZ z (pos 0) ≡ false → numberText z ≡ wordText (natAbs z)
 above-text (pos k) l h = sym (long-decimal k (omega arith))
 above-text (negsuc k) l h = false-true (sym h)
 
@@ -54,8 +54,8 @@ module _ (z : ℤ) (f : SFits w32 z) {n : ℕ} (m : n ≡ natAbs (toZ w32 (ofZ w
   lent : toZ w32 (ofZ w32 z) ≡ z
   lent = toZ-ofZ w32 z f
 
-  pub with-minus : ltZ (toZ w32 (ofZ w32 z)) (pos 0) ≡ true → numberText z ≡ minus ∷ longDecimal n
-  with-minus h = below-text z (f .sfits) (rw lent at h) ∙ ap (λ (k : ℕ). minus ∷ longDecimal k) (sym (m ∙ ap natAbs lent))
+  pub with-minus : ltZ (toZ w32 (ofZ w32 z)) (pos 0) ≡ true → numberText z ≡ minus ∷ wordText n
+  with-minus h = below-text z (f .sfits) (rw lent at h) ∙ ap (λ (k : ℕ). minus ∷ wordText k) (sym (m ∙ ap natAbs lent))
 
-  pub without-minus : ltZ (toZ w32 (ofZ w32 z)) (pos 0) ≡ false → numberText z ≡ longDecimal n
-  without-minus h = above-text z (f .sfits) (rw lent at h) ∙ ap longDecimal (sym (m ∙ ap natAbs lent))
+  pub without-minus : ltZ (toZ w32 (ofZ w32 z)) (pos 0) ≡ false → numberText z ≡ wordText n
+  without-minus h = above-text z (f .sfits) (rw lent at h) ∙ ap wordText (sym (m ∙ ap natAbs lent))

@@ -7,7 +7,8 @@ ghost use lib.IntN.{pos, negℤ, natAbs};
 ghost use lib.ListN.{length, drop};
 ghost use Rattle.ground.specs.Tests.{Says};
 ghost use Rattle.rules.specs.Text.{numberText};
-ghost use Rattle.number.specs.Writing.{longDecimal, Collected, Put};
+ghost use Rattle.rules.specs.Listing.{wordText};
+ghost use Rattle.number.specs.Writing.{Collected, Put};
 ghost use Rattle.number.specs.Reading.{isDigit, ReadsNumber, grown, scanned, Confirmed};
 
 // Whether a number stands at a position; then which one, and the position after it.
@@ -25,7 +26,7 @@ pub struct Run {
 
 // How many digits a number has.
 pub fn decimal_length(n: u64) -> usize
-    ensures { λ r. ⌜ r ≡ length (longDecimal n) ⌝ }
+    ensures { λ r. ⌜ r ≡ length (wordText n) ⌝ }
 {
     let mut digits: usize = 1;
     let mut left = n;
@@ -59,7 +60,7 @@ pub fn number_length(v: i32) -> usize
 
 // Collects the digits of a number, the last one first, and answers how many there are.
 fn collect_digits(digits: &mut [u8], n: u64) -> usize
-    requires { ⌜ length (longDecimal n) ≤ length (now digits) ⌝ }
+    requires { ⌜ length (wordText n) ≤ length (now digits) ⌝ }
     ensures { λ r. ⌜ Collected n (now (digits .exit)) r ⌝ }
 {
     let mut count = 0;
@@ -88,10 +89,23 @@ fn turn_round(text: &mut [u8], at: usize, bytes: &[u8]) -> usize
     next
 }
 
+// Copies bytes into a text, and answers the position after them.
+pub fn put_bytes(text: &mut [u8], at: usize, bytes: &[u8]) -> usize
+    requires { ⌜ at + length (now bytes) ≤ length (now text) ⌝ }
+    ensures { λ r. ⌜ Put (now (text .entry)) at (now (bytes .entry)) (now (text .exit)) r ⌝ }
+{
+    let mut i = 0;
+    while i < bytes.len() {
+        text[at + i] = bytes[i];
+        i += 1;
+    }
+    at + i
+}
+
 // Writes a number without a sign, and answers the position after it: its digits are collected, and turned round.
 pub fn put_decimal(text: &mut [u8], at: usize, n: u64) -> usize
-    requires { ⌜ at + length (longDecimal n) ≤ length (now text) ⌝ }
-    ensures { λ r. ⌜ Put (now (text .entry)) at (longDecimal n) (now (text .exit)) r ⌝ }
+    requires { ⌜ at + length (wordText n) ≤ length (now text) ⌝ }
+    ensures { λ r. ⌜ Put (now (text .entry)) at (wordText n) (now (text .exit)) r ⌝ }
 {
     let mut digits: [u8; 20] = [0; 20];
     let count = collect_digits(&mut digits, n);

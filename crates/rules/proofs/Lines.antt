@@ -1,15 +1,16 @@
 -- A text's lines tell its rows: what is spelt is spelt in one way, and every line of it is right. Assumes nothing.
 use Prim.Native.Nat.{ℕ, zero, suc, _≤_, _<_}
+use native.Mathlib.Decide.{decLe}
 use native.Mathlib.Omega.{arith}
 use mathlib.Core.Bool.{false}
-use mathlib.Core.List.{List, [], _∷_, _++_, map, flatMap, append-assoc, append-cancel-left, append-cancel-right}
+use mathlib.Core.List.{List, [], _∷_, _++_, map, flatMap, append-nil, append-assoc, append-cancel-left, append-cancel-right}
 use mathlib.Core.List.{head-eq-of-cons-eq, tail-eq-of-cons-eq, nil≢cons, cons≢nil}
 use mathlib.Core.Option.{Option, some}
 use mathlib.Core.Path.{_≡_, refl, sym, ap, subst, _∙_}
 use borrow.Author.Tests.{ne-eqb}
 use lib.Dec.{eqb}
 use lib.IntN.{ℤ}
-use lib.ListN.{length, getD, length-map}
+use lib.ListN.{length, getD, length-map, List·getD-append}
 use Rattle.ground.specs.Lists.{All, findIf}
 use Rattle.ground.proofs.Lists.{all-append, all-at, all-map, all-flatMap, map-at}
 use Rattle.ground.proofs.Splits.{Run, Stop, split-once}
@@ -35,17 +36,18 @@ name-run Diff = omega arith
 byThird : List ℕ → Option Kind
 byThird name = findIf (λ k. eqb (getD name 2 0) (getD (kindName k) 2 0)) kinds
 
-third-tells : (k : Kind) → byThird (kindName k) ≡ some k
+third-tells : (k : Kind) (more : List ℕ) → byThird (kindName k ++ more) ≡ some k
 unfolding byThird findIf
-third-tells Box = refl
-third-tells Wedge = refl
-third-tells Drum = refl
-third-tells Union = refl
-third-tells Inter = refl
-third-tells Diff = refl
+third-tells Box more = refl
+third-tells Wedge more = refl
+third-tells Drum more = refl
+third-tells Union more = refl
+third-tells Inter more = refl
+third-tells Diff more = refl
 
-name-once : (k l : Kind) → kindName k ≡ kindName l → k ≡ l
-name-once k l e = let s : some k ≡ some l = sym (third-tells k) ∙ ap byThird e ∙ third-tells l in cc
+-- so the bytes that begin with one of them, whatever follows, begin with no other
+pub name-once : (k l : Kind) (us vs : List ℕ) → kindName k ++ us ≡ kindName l ++ vs → k ≡ l
+name-once k l us vs e = let s : some k ≡ some l = sym (third-tells k us) ∙ ap byThird e ∙ third-tells l vs in cc
 
 -- what follows a name or a number: it begins with a tab or the line feed
 abbrev rest : List ℤ → List ℕ
@@ -74,7 +76,7 @@ line-once : (a b : TextRow) → RightRow a → RightRow b → lineOf a ≡ lineO
 line-once a b ra rb e =
     let s = split-once 45 (kindName (a .kind)) (kindName (b .kind)) (rest (a .words)) (rest (b .words))
     (name-run (a .kind)) (name-run (b .kind)) (rest-stops (a .words)) (rest-stops (b .words)) e in
-    let k : a .kind ≡ b .kind = name-once (a .kind) (b .kind) (s .0) in
+    let k : a .kind ≡ b .kind = name-once (a .kind) (b .kind) (rest (a .words)) (rest (b .words)) e in
     let l : length (a .words) ≡ length (b .words) = ra .named ∙ ap namedWords k ∙ sym (rb .named) in
     let w : a .words ≡ b .words = words-once (a .words) (b .words) l (ra .fit) (rb .fit) (s .1) in
     λ i. record { kind = k i; words = w i }
@@ -119,15 +121,29 @@ row-line row bytes =
     simp (← append-assoc) (line-first (kindName (row .kind) ++ flatMap fieldText (row .words)) bytes
     (all-append (λ b. eqb b lineFeed ≡ false) (kindName (row .kind)) (flatMap fieldText (row .words)) (run-noFeed (kindName (row .kind)) (name-run (row .kind))) (fields-noFeed (row .words))))
 
-rows-lines : (rows : List TextRow) → linesOf (flatMap lineOf rows) ≡ map lineOf rows
-unfolding linesOf flatMap
-rows-lines [] = refl
-rows-lines (row ∷ rows) = row-line row (flatMap lineOf rows) ∙ ap (λ (ls : List (List ℕ)). lineOf row ∷ ls) (rows-lines rows)
+rows-lines : (rows : List TextRow) (bytes : List ℕ) → linesOf (flatMap lineOf rows ++ bytes) ≡ map lineOf rows ++ linesOf bytes
+unfolding flatMap
+rows-lines [] bytes = refl
+rows-lines (row ∷ rows) bytes =
+    ap linesOf (append-assoc (lineOf row) (flatMap lineOf rows) bytes)
+    ∙ row-line row (flatMap lineOf rows ++ bytes)
+    ∙ ap (λ (ls : List (List ℕ)). lineOf row ∷ ls) (rows-lines rows bytes)
 
-pub text-lines : (rows : List TextRow) → linesOf (textOf rows) ≡ headerLine (length rows) ∷ map lineOf rows
+-- a text that has begun: a header and some rows, before other bytes
+pub begun-lines : (n : ℕ) (rows : List TextRow) (bytes : List ℕ)
+    → linesOf ((headerLine n ++ flatMap lineOf rows) ++ bytes) ≡ headerLine n ∷ (map lineOf rows ++ linesOf bytes)
+begun-lines n rows bytes =
+    let no-feed : NoFeed (zoneName ++ (tab ∷ decimal n)) = (refl, (refl, (refl, (refl, (refl, run-noFeed (decimal n) (decimal-run n)))))) in
+    ap linesOf (append-assoc (headerLine n) (flatMap lineOf rows) bytes)
+    ∙ line-first (zoneName ++ (tab ∷ decimal n)) (flatMap lineOf rows ++ bytes) no-feed
+    ∙ ap (λ (ls : List (List ℕ)). headerLine n ∷ ls) (rows-lines rows bytes)
+
+text-lines : (rows : List TextRow) → linesOf (textOf rows) ≡ headerLine (length rows) ∷ map lineOf rows
+unfolding linesOf
 text-lines rows =
-    line-first (zoneName ++ (tab ∷ decimal (length rows))) (flatMap lineOf rows) (refl, (refl, (refl, (refl, (refl, run-noFeed (decimal (length rows)) (decimal-run (length rows)))))))
-    ∙ ap (λ (ls : List (List ℕ)). headerLine (length rows) ∷ ls) (rows-lines rows)
+    ap linesOf (sym (append-nil (textOf rows)))
+    ∙ begun-lines (length rows) rows []
+    ∙ ap (λ (ls : List (List ℕ)). headerLine (length rows) ∷ ls) (append-nil (map lineOf rows))
 
 pub text-once : (xs ys : List TextRow) → All RightRow xs → All RightRow ys → textOf xs ≡ textOf ys → xs ≡ ys
 text-once xs ys rx ry e = lines-once xs ys rx ry (tail-eq-of-cons-eq (sym (text-lines xs) ∙ ap linesOf e ∙ text-lines ys))
@@ -136,20 +152,37 @@ text-once xs ys rx ry e = lines-once xs ys rx ry (tail-eq-of-cons-eq (sym (text-
 abbrev pub noRow : TextRow
 noRow = record { kind = Box; words = [] }
 
--- every line of a text that is spelt is right
-module _ (rows : List TextRow) (some-row : 1 ≤ length rows) (not-over : length rows ≤ mostRows) (right : All RightRow rows) where
+-- every line of a text that has begun is right, up to its last row
+module _ (n : ℕ) (some-row : 1 ≤ n) (not-over : n ≤ mostRows) (rows : List TextRow) (right : All RightRow rows) (more : List (List ℕ)) where
   abbrev lines : List (List ℕ)
-  lines = headerLine (length rows) ∷ map lineOf rows
+  lines = headerLine n ∷ (map lineOf rows ++ more)
 
-  right-line : (k : ℕ) → k < length rows → RightLine (getD (map lineOf rows) k [])
-  right-line k h = record { row = getD rows k noRow; right = all-at RightRow noRow rows right k h; is = map-at lineOf noRow [] rows k h }
+  right-line : (k : ℕ) → k < length rows → RightLine (getD (map lineOf rows ++ more) k [])
+  right-line k h = record {
+    row = getD rows k noRow;
+    right = all-at RightRow noRow rows right k h;
+    is = List·getD-append (map lineOf rows) more [] k (omega (arith, length-map rows lineOf)) ∙ map-at lineOf noRow [] rows k h;
+  }
 
-  right-after : (k : ℕ) → RightAfter lines k
-  right-after zero = (length rows, record { some-row = some-row; not-over = not-over; is = refl })
-  right-after (suc k) = λ n header.
+  pub begun-right : length rows ≤ n → (k : ℕ) → k ≤ length rows → RightAfter lines k
+  begun-right few zero h = (n, record { some-row = some-row; not-over = not-over; is = refl })
+  begun-right few (suc k) h = λ m header.
+      let same : m ≡ n = header-once m n (header .not-over) not-over (sym (header .is)) in
+      ((λ l. right-line k h), (λ l. absurd (omega arith)))
+
+-- and every line of a text that is spelt
+module _ (rows : List TextRow) (some-row : 1 ≤ length rows) (not-over : length rows ≤ mostRows) (right : All RightRow rows) where
+  after-last : (k : ℕ) → length rows < k → RightAfter (headerLine (length rows) ∷ map lineOf rows) k
+  after-last zero h = absurd (omega arith)
+  after-last (suc k) h = λ n header.
       let same : n ≡ length rows = header-once n (length rows) (header .not-over) not-over (sym (header .is)) in
-      let m : length (map lineOf rows) ≡ length rows = length-map rows lineOf in
-      ((λ h. right-line k (omega arith)), (λ h. omega arith))
+      ((λ l. absurd (omega arith)), (λ l. omega (arith, length-map rows lineOf)))
 
   pub spelt-right : (k : ℕ) → RightAfter (linesOf (textOf rows)) k
-  spelt-right k = subst (λ (ls : List (List ℕ)). RightAfter ls k) (sym (text-lines rows)) (right-after k)
+  spelt-right k = subst (λ (ls : List (List ℕ)). RightAfter ls k) (sym (text-lines rows)) (go (decLe k (length rows)))
+    where
+      go : Dec (k ≤ length rows) → RightAfter (headerLine (length rows) ∷ map lineOf rows) k
+      go (yes h) =
+          subst (λ (ls : List (List ℕ)). RightAfter (headerLine (length rows) ∷ ls) k) (append-nil (map lineOf rows))
+          (begun-right (length rows) some-row not-over rows right [] (omega arith) k h)
+      go (no h) = after-last k (omega arith)

@@ -8,6 +8,7 @@ use mathlib.Core.Path.{_≡_, refl, sym, ap, subst, _∙_}
 use borrow.Author.Tests.{ltb-true}
 use lib.Dec.{ltb}
 use lib.IntN.{ℤ, pos, negsuc}
+use lib.ListN.{length, length-append}
 use Rattle.ground.specs.Lists.{All}
 use Rattle.ground.specs.Tests.{if_then_else_}
 use Rattle.ground.proofs.Lists.{all-append, all-map}
@@ -66,6 +67,17 @@ number-once (negsuc m) (negsuc n) hv hw e =
     let s : suc m ≡ suc n = decimal-once (suc m) (suc n) (omega (arith, hv .fits)) (omega (arith, hw .fits)) (tail-eq-of-cons-eq e) in
     let p : m ≡ n = omega arith in
     ap negsuc p
+
+-- no more digits than are allowed
+pub few-digits : (most n : ℕ) → length (decimalIn most n) ≤ most
+unfolding decimalIn
+few-digits zero n = omega arith
+few-digits (suc most) n = go (ltb n 10) (few-digits most (n / 10))
+  where
+    go : (b : Bool) → length (decimalIn most (n / 10)) ≤ most
+        → length (if b then digit n ∷ [] else decimalIn most (n / 10) ++ (digit (n % 10) ∷ [])) ≤ suc most
+    go true h = omega arith
+    go false h = omega (arith, length-append (decimalIn most (n / 10)) (digit (n % 10) ∷ []))
 
 -- a minus and digits are 45 or more; tabs and line feeds are less
 pub decimal-run : (n : ℕ) → All (λ b. 45 ≤ b) (decimal n)

@@ -4,7 +4,7 @@ use Prim.Native.Nat.{ℕ, _≤_, _<_}
 use native.Mathlib.Omega.{arith}
 use native.Mathlib.Decide.{decLt}
 use mathlib.Core.List.{List, [], _∷_}
-use mathlib.Core.Option.{Option, none, some}
+use mathlib.Core.Option.{Option, some}
 use mathlib.Core.Path.{_≡_, refl, sym, ap, subst, _∙_}
 use lib.IntN.{ℤ}
 use lib.ListN.{length}
@@ -18,17 +18,20 @@ use Rattle.rules.specs.declared.Searched.{Searched}
 use Rattle.rules.specs.declared.Window.{Window}
 use Rattle.rules.specs.declared.Written.{Written}
 use Rattle.rules.specs.declared.Written.the-variants.{Refused}
-use Rattle.rules.specs.Table.{mostRows}
+use Rattle.rules.specs.Table.{mostRows, primitives}
 use Rattle.rules.specs.Verdict.{tableRefusal}
 use Rattle.rules.specs.Refusals.{roomRefusal}
 use Rattle.rules.specs.Text.{TextRow, textOf, tableOf}
 use Rattle.rules.specs.TextForm.{linesOf, RightRow, FirstFault, TextForm, too-long, faulty, spelt}
-use Rattle.rules.specs.Told.{Told, refused, wrote, tell}
-use Rattle.rules.specs.Outcome.{leave}
+use Rattle.rules.specs.Told.{refused, wrote, tell}
+use Rattle.rules.specs.Outcome.{over, leave}
+use Rattle.rules.specs.Products.{products}
+use Rattle.rules.specs.Tree.{treeOf}
 use Rattle.rules.specs.TreeCalls.{TableChecked, TreeLocated, TreeSearched}
 use Rattle.rules.specs.ListCalls.{zoneList, makeRefusal, ListMade, ListLocated, ListSearched}
 use Rattle.rules.specs.TextCalls.{tableRead, formRefusal, readRefusal, TextRead, tableText, writeRefusal, TextWritten}
-use Rattle.rules.proofs.Told.{checked-once, located-once, searched-once, written-once}
+use Rattle.rules.specs.Listing.{fullRange, listingRoom, printed, ZoneListed}
+use Rattle.rules.proofs.Told.{checked-once, located-once, searched-once, written-once, refused-some}
 use Rattle.rules.proofs.Lines.{text-once, spelt-right}
 
 -- ---- calls that only answer
@@ -95,11 +98,20 @@ text-read-settled {before = before} {r = r} {s = s} p q =
       p .buffer ∙ (λ i. leave (ruling (once .0 i) (once .1 i)) (once .1 i) before) ∙ sym (q .buffer),
     )
 
+-- what the listing program prints
+pub zone-listed-settled : {text before a b : List ℕ} {m n : ℕ} → ZoneListed text before a m → ZoneListed text before b n → (m ≡ n) × (a ≡ b)
+zone-listed-settled {before = before} p q =
+    let once = form-once (p .form) (q .form) in
+    let bytes : (x : Option Refusal) (t : List ℤ) → List ℕ
+    = λ x t. printed (firstOf (x ∷ makeRefusal t fullRange listingRoom ∷ [])) (products fullRange (primitives t) (treeOf t)) in (
+      p .size ∙ (λ i. length (bytes (once .0 i) (once .1 i))) ∙ sym (q .size),
+      p .buffer ∙ (λ i. over (bytes (once .0 i) (once .1 i)) before) ∙ sym (q .buffer),
+    )
+
 -- ---- a refusal leaves the buffer as it was
 
 keeps : {A : Type 0} (x : Option Refusal) (result before : List A) {r : Refusal} → refused r ≡ tell x (wrote (length result)) → leave x result before ≡ before
-keeps none result before e = let t = ap (λ (told : Told). told .tale) e in let z : _≡_ {A = ℕ} 0 1 = cc in absurd (omega arith)
-keeps (some q) result before e = refl
+keeps x result before e = ap (λ (y : Option Refusal). leave y result before) (refused-some x (length result) e)
 
 pub list-made-keeps : {t : List ℤ} {w : Window} {before after : List ℕ} {r : Refusal} → ListMade t w before after (Refused r) → after ≡ before
 list-made-keeps {t} {w} {before} p = p .buffer ∙ keeps (makeRefusal t w (length before)) (zoneList t w) before (p .answer)

@@ -1,5 +1,8 @@
--- An answer is what it tells: no two answers tell the same. Assumes nothing.
-use mathlib.Core.Path.{_≡_, refl, ap}
+-- An answer is what it tells: no two answers tell the same, and the answer of a call that writes tells what it had to refuse. Assumes nothing.
+use Prim.Native.Nat.{ℕ}
+use native.Mathlib.Omega.{arith}
+use mathlib.Core.Option.{Option, none, some}
+use mathlib.Core.Path.{_≡_, refl, sym, ap}
 use Rattle.rules.specs.declared.Refusal.{Refusal}
 use Rattle.rules.specs.declared.Checked.{Checked}
 use Rattle.rules.specs.declared.Checked.the-variants as checked
@@ -9,7 +12,7 @@ use Rattle.rules.specs.declared.Searched.{Searched}
 use Rattle.rules.specs.declared.Searched.the-variants as searched
 use Rattle.rules.specs.declared.Written.{Written}
 use Rattle.rules.specs.declared.Written.the-variants as written
-use Rattle.rules.specs.Told.{Told, refused, toldChecked, toldLocated, toldSearched, toldWritten}
+use Rattle.rules.specs.Told.{Told, wrote, fine, refused, tell, toldChecked, toldLocated, toldSearched, toldWritten}
 
 tale : {a b : Told} → a ≡ b → a .tale ≡ b .tale
 tale e = ap (λ (t : Told). t .tale) e
@@ -54,3 +57,12 @@ written-once (written.Wrote m) (written.Wrote n) e = let t = tale e in cc
 written-once (written.Wrote m) (written.Refused q) e = let t = tale e in cc
 written-once (written.Refused p) (written.Wrote n) e = let t = tale e in cc
 written-once (written.Refused p) (written.Refused q) e = ap written.Refused (refusal-once p q e)
+
+-- a call that wrote had nothing to refuse, and one that refused had this refusal
+pub wrote-none : (x : Option Refusal) (m n : ℕ) → fine (wrote n) ≡ tell x (wrote m) → (x ≡ none) × (n ≡ m)
+wrote-none none m n e = let t = tale e in (refl, cc)
+wrote-none (some q) m n e = let t = tale e in let z : _≡_ {A = ℕ} 0 1 = cc in absurd (omega arith)
+
+pub refused-some : (x : Option Refusal) (m : ℕ) {r : Refusal} → refused r ≡ tell x (wrote m) → x ≡ some r
+refused-some none m e = let t = tale e in cc
+refused-some (some q) m {r} e = ap some (sym (refusal-once r q e))

@@ -20,3 +20,4 @@ pub mod Outcome
 pub mod TreeCalls
 pub mod ListCalls
 pub mod TextCalls
+pub mod Listing

@@ -17,6 +17,8 @@ pub const ROW_WORDS: usize = 12;
 
 pub const MOST_ROWS: usize = 127;
 
+pub const MOST_BYTES: usize = 16384;
+
 // Sample column, ADC code, frame number.
 pub struct Point {
     pub x: i32,

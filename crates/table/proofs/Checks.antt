@@ -12,9 +12,7 @@ use lib.ListN.{length, getD}
 use Rattle.ground.specs.Lists.{orElse, firstOf, rulings}
 use Rattle.ground.proofs.Counting.{or-else-none, rulings-same, rulings-none}
 use Rattle.rules.specs.declared.Kind.{Kind}
-use Rattle.rules.specs.declared.Kind.the-variants.{Box, Wedge, Drum, Union, Inter, Diff}
 use Rattle.rules.specs.declared.Refusal.{Refusal}
-use Rattle.rules.specs.Kinds.{namedWords}
 use Rattle.rules.specs.Fields.{fieldsRight, spareRight, childrenRight}
 use Rattle.rules.specs.Refusals.{refuse, refuseIf, refuseUnless}
 use Rattle.rules.specs.Table.{rowWords, mostRows, rowCount}
@@ -23,14 +21,6 @@ use Rattle.laws.proofs.Soundness.{sound-row, whole-table}
 use Rattle.table.specs.declared.Named.the-variants as named
 use Rattle.table.specs.Reading.{namedBy, timesTo, onceRule, SoundRows}
 use Rattle.table.proofs.Tally.{times-at}
-
-pub named-few : (k : Kind) → namedWords k ≤ 10
-named-few Box = omega arith
-named-few Wedge = omega arith
-named-few Drum = omega arith
-named-few Union = omega arith
-named-few Inter = omega arith
-named-few Diff = omega arith
 
 module _ (k : Kind) (w : ℕ → ℤ) (row : ℕ) where
   pub fields-wrong : (fieldsRight k w && spareRight k w) ≡ false → rowRefusalBy (some k) w row ≡ refuse 3 row

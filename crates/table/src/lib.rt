@@ -208,7 +208,7 @@ fn fields_right(table: &[i32], row: usize, kind: Kind) -> bool
 }
 
 // How many words a kind names after word 0.
-fn named_words(kind: Kind) -> usize
+pub fn named_words(kind: Kind) -> usize
     ensures { λ r. ⌜ r ≡ namedWords kind ⌝ }
 {
     match kind {

@@ -7,6 +7,7 @@ use rules::Searched;
 use rules::Window;
 use rules::Written;
 ghost use Rattle.rules.specs.ListCalls.{ListMade, ListLocated, ListSearched};
+ghost use Rattle.rules.specs.TextCalls.{TextRead, TextWritten};
 ghost use Rattle.rules.specs.TreeCalls.{TableChecked, TreeLocated, TreeSearched};
 
 // Whether a table is sound, or the first rule that it breaks (1 to 5).
@@ -52,4 +53,20 @@ pub fn list_search(table: &[i32], list: &[u64], samples: &[i16], place: Place) -
     ensures { λ r. ⌜ ListSearched (now (table .entry)) (now (list .entry)) (now (samples .entry)) place r ⌝ }
 {
     answer::list_search(table, list, samples, place)
+}
+
+// Reads zone text into a table and says how many words it took; the words beyond stay. Refusals: 13 with the first faulty line, or with 0 where
+// there are over 16,384 bytes; the table's; 8 with the words needed.
+pub fn read_text(text: &[u8], table: &mut [i32]) -> Written
+    ensures { λ r. ⌜ TextRead (now (text .entry)) (now (table .entry)) (now (table .exit)) r ⌝ }
+{
+    text::read_text(text, table)
+}
+
+// Writes the text of a table and says how many bytes it took; the bytes beyond stay. Refusals: the table's; 8 with the bytes needed. No text is
+// longer than 16,384 bytes.
+pub fn write_text(table: &[i32], text: &mut [u8]) -> Written
+    ensures { λ r. ⌜ TextWritten (now (table .entry)) (now (text .entry)) (now (text .exit)) r ⌝ }
+{
+    text::write_text(table, text)
 }

@@ -2,7 +2,7 @@ use Prim.Native.Nat.{_≤_}
 use native.Mathlib.Omega.{arith}
 use mathlib.Core.Path.{_≡_, refl, _∙_}
 use lib.ListN.{length, length-set}
-use Rattle.number.proofs.Digits.{few-digits}
+use Rattle.rules.proofs.Numbers.{few-digits}
 use Rattle.number.proofs.Writing.{Collecting, none-collected, room, one-collected, all-collected}
 use Rattle.number.proofs.collect_digits.Statement.{statement}
 use Rattle.number.proofs.collect_digits.Tie as tie

@@ -2,13 +2,14 @@ use Prim.Native.Nat.{_+_, _≤_}
 use native.Mathlib.Omega.{arith}
 use mathlib.Core.Path.{_≡_, ap}
 use lib.ListN.{length}
-use Rattle.number.specs.Writing.{longDecimal}
-use Rattle.number.proofs.Digits.{one-digit, more-digits, few-digits}
+use Rattle.rules.specs.Listing.{wordText}
+use Rattle.rules.proofs.Numbers.{few-digits}
+use Rattle.number.proofs.Digits.{one-digit, more-digits}
 use Rattle.number.proofs.decimal_length.Statement.{statement}
 use Rattle.number.proofs.decimal_length.Tie as tie
 
 abbrev Inv-loop : tie.InvT-loop
-Inv-loop n digits₀ left₀ digits left = (left ≤ n) × (digits + length (longDecimal left) ≡ 1 + length (longDecimal n))
+Inv-loop n digits₀ left₀ digits left = (left ≤ n) × (digits + length (wordText left) ≡ 1 + length (wordText n))
 
 abbrev μ-loop : tie.MeasureT-loop
 μ-loop n digits₀ left₀ digits left = left

@@ -2,7 +2,7 @@ use native.Mathlib.Omega.{arith}
 use mathlib.Core.Path.{ap}
 use borrow.Author.Needs.{needs}
 use lib.ListN.{length}
-use Rattle.number.proofs.Digits.{few-digits}
+use Rattle.rules.proofs.Numbers.{few-digits}
 use Rattle.number.proofs.Signs.{with-minus, without-minus}
 use Rattle.number.proofs.number_length.Statement.{statement}
 use Rattle.number.proofs.number_length.Tie as tie

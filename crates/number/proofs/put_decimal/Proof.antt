@@ -2,7 +2,7 @@ use native.Mathlib.Omega.{arith}
 use mathlib.Core.Path.{sym}
 use borrow.Author.Needs.{needs}
 use lib.Seq.{length-take-le}
-use Rattle.number.proofs.Digits.{few-digits}
+use Rattle.rules.proofs.Numbers.{few-digits}
 use Rattle.number.proofs.Writing.{put-same}
 use Rattle.number.proofs.put_decimal.Statement.{statement}
 use Rattle.number.proofs.put_decimal.Tie as tie

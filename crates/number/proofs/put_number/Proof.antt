@@ -4,7 +4,7 @@ use borrow.Author.Needs.{needs}
 use lib.ListN.{length, length-set}
 use Rattle.rules.specs.Text.{minus}
 use Rattle.number.proofs.Signs.{with-minus, without-minus}
-use Rattle.number.proofs.Writing.{put-first, put-same}
+use Rattle.number.proofs.Writing.{put-same, put-join, put-one}
 use Rattle.number.proofs.put_number.Statement.{statement}
 use Rattle.number.proofs.put_number.Tie as tie
 
@@ -34,7 +34,7 @@ returns c =
     let s = c .before .before .before .before .before .before .before in
     let m = c .before .before .before .before .before .magnitude in
     let text = with-minus (s .args .v) (s .fits .v) (m .ensures) (c .before .before .before .before .if1 .taken) in
-    put-same text (put-first minus (c .before .before .put-decimal .ensures))
+    put-same text (put-join (put-one minus (s .args .text .now) (s .args .at)) (c .before .before .put-decimal .ensures))
 
 put-decimal-requires-2 : tie.Need-put-decimal-requires-2
 put-decimal-requires-2 c κs =

@@ -1,5 +1,5 @@
 use native.Mathlib.Omega.{arith}
-use Rattle.number.proofs.Writing.{Turning, none-turned, text-size, turned-size, one-turned, all-turned}
+use Rattle.number.proofs.Writing.{put-size, Turning, none-turned, turned-size, one-turned, all-turned}
 use Rattle.number.proofs.turn_round.Statement.{statement}
 use Rattle.number.proofs.turn_round.Tie as tie
 
@@ -21,10 +21,10 @@ shared-slice-read-text c = omega (arith, c .before .before .loop .inv .within)
 slice-write-text : tie.Need-slice-write-text Inv-loop μ-loop
 slice-write-text c =
     let t = c .before .before .loop .inv in
-    omega (arith, turned-size t, text-size t, c .before .before .before .pre)
+    omega (arith, turned-size t, put-size (t .put), c .before .before .before .pre)
 
 add-next : tie.Need-add-next Inv-loop μ-loop
-add-next c = omega (arith, slice-write-text c, text-size (c .before .before .loop .inv))
+add-next c = omega (arith, slice-write-text c, put-size (c .before .before .loop .inv .put))
 
 loop-less : tie.Need-loop-less Inv-loop μ-loop
 loop-less c = omega arith
@@ -33,7 +33,7 @@ loop-again : tie.Need-loop-again Inv-loop μ-loop
 loop-again c = one-turned (c .before .before .loop .inv) (omega arith)
 
 same-length : tie.Need-same-length Inv-loop μ-loop
-same-length c = text-size (c .before .loop .inv)
+same-length c = put-size (c .before .loop .inv .put)
 
 returns : tie.Need-returns Inv-loop μ-loop
 returns c = all-turned (c .before .loop .inv) (omega arith)

@@ -9,7 +9,8 @@ use Rattle.ground.specs.Lists.{rest, all}
 use Rattle.ground.specs.Tests.{eqZ}
 use Rattle.rules.specs.Fields.{fieldsRight, spareRight}
 use Rattle.rules.specs.Table.{wordAt}
-use Rattle.table.proofs.Checks.{named-few, fields-wrong, children-wrong, row-right}
+use Rattle.laws.proofs.TextLengths.{few-named}
+use Rattle.table.proofs.Checks.{fields-wrong, children-wrong, row-right}
 use Rattle.laws.specs.Answers.{checkedBy}
 use Rattle.table.proofs.check_known.Statement.{statement}
 use Rattle.table.proofs.check_known.Tie as tie
@@ -31,7 +32,7 @@ named-words-requires : tie.Need-named-words-requires
 named-words-requires c κs = search needs
 
 add-start : tie.Need-add-start
-add-start c = omega (arith, named-few (c .before .args .kind), c .named-words .ensures)
+add-start c = omega (arith, few-named (c .before .args .kind), c .named-words .ensures)
 
 fields-right-requires : tie.Need-fields-right-requires
 fields-right-requires c κs = search needs
