@@ -42,6 +42,7 @@ use Rattle.rules.specs.Told.{tell}
 use Rattle.rules.specs.Tree.{treeOf}
 use Rattle.rules.specs.TreeCalls.{axisRefusal, pointRefusal, pointTale, searchTale, treePointRefusal, TreeLocated, treeSearchRefusal, TreeSearched}
 use Rattle.rules.specs.Verdict.{tableRefusal}
+use Rattle.rules.proofs.Settled.{tree-located-settled}
 use Rattle.rules.proofs.Told.{located-once, searched-once, wrote-none}
 use Rattle.laws.specs.Sound.{Sound}
 use Rattle.laws.proofs.Answers.{holds-point}
@@ -140,16 +141,16 @@ window-in-range w e p h =
 -- ---- a list that was made
 
 module _ (t : List ℤ) (w : Window) (before after : List ℕ) (n : ℕ) (made : ListMade t w before after (written.Wrote n)) where
-  accepted : makeRefusal t w (length before) ≡ none
+  pub accepted : makeRefusal t w (length before) ≡ none
   accepted = wrote-none (makeRefusal t w (length before)) (length (zoneList t w)) n (made .answer) .0
 
-  table-fine : tableRefusal t ≡ none
+  pub table-fine : tableRefusal t ≡ none
   table-fine = first-kept (tableRefusal t) _ accepted .0
 
-  window-fine : windowRefusal w ≡ none
+  pub window-fine : windowRefusal w ≡ none
   window-fine = first-kept (windowRefusal w) _ (first-kept (tableRefusal t) _ accepted .1) .0
 
-  few-choices : expansion (treeOf t) ≤ mostChoices
+  pub few-choices : expansion (treeOf t) ≤ mostChoices
   few-choices =
       let count = expansion (treeOf t) in
       let later = first-kept (windowRefusal w) _ (first-kept (tableRefusal t) _ accepted .1) .1 in
@@ -196,13 +197,16 @@ module _ (t : List ℤ) (w : Window) (before after : List ℕ) (n : ℕ) (made :
       let in-range = holds-point everywhere p (window-in-range w window-fine p held) in
       λ i. orElse (table-fine i) (orElse (in-range i) none)
 
-  -- a point in the list and the same point in the tree get the same answer
+  -- at a point of the window whoever answers from the list answers from the tree
+  pub list-locates : (p : Point) → holds (windowBox w) p ≡ true → {a : Located} → ListLocated t after p a → TreeLocated t p a
+  list-locates p held by-list = record {
+    answer = by-list .answer
+        ∙ (λ i. tell ((point-rule p ∙ holds-point (windowBox w) p held ∙ sym (tree-point-rule p held)) i) (pointTale (list-is-tree p held i)));
+  }
+
+  -- so that a point in the list and the same point in the tree get the same answer
   pub list-answers-tree : (p : Point) → holds (windowBox w) p ≡ true → {a b : Located} → ListLocated t after p a → TreeLocated t p b → a ≡ b
-  list-answers-tree p held {a} {b} by-list by-tree =
-      located-once a b
-      (by-list .answer
-      ∙ (λ i. tell ((point-rule p ∙ holds-point (windowBox w) p held ∙ sym (tree-point-rule p held)) i) (pointTale (list-is-tree p held i)))
-      ∙ sym (by-tree .answer))
+  list-answers-tree p held by-list by-tree = tree-located-settled (list-locates p held by-list) by-tree
 
   -- a point out of the window is refused: 10, with the first axis on which it is out
   pub list-refuses-outside : (p : Point) → holds (windowBox w) p ≡ false → {a : Located} → ListLocated t after p a

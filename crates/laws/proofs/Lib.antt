@@ -31,3 +31,7 @@ pub mod SoundLists
 pub mod Held
 pub mod TextLengths
 pub mod Texts
+pub mod Outcomes
+pub mod Searches
+pub mod Copies
+pub mod Promises

@@ -34,7 +34,7 @@ says-not : (b : Bool) (Y : Type 0) → Says b Y → Says (not b) (Y → ⊥)
 says-not true Y y = λ k. k y
 says-not false Y y = y
 
-says-itself : (b : Bool) → Says b (b ≡ true)
+pub says-itself : (b : Bool) → Says b (b ≡ true)
 says-itself true = refl
 says-itself false = λ e. false-true e
 

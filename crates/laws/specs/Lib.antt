@@ -7,3 +7,4 @@ pub mod Reach
 pub mod Listed
 pub mod SoundList
 pub mod Held
+pub mod Promises

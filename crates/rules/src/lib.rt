@@ -26,7 +26,8 @@ pub struct Point {
     pub z: i32,
 }
 
-// The columns, codes and frames that a list is made for; both ends belong to it.
+// The columns, codes and frames that a list is made for; both ends belong to it. C hands it over as it stands.
+#[repr(C)]
 pub struct Window {
     pub xlo: i32,
     pub xhi: i32,

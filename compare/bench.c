@@ -1,0 +1,203 @@
+/* The benchmark: the library and its peers on the same work, in the same process, best of several. It is no part of a gate.
+   Use: bench [PART OF THE WORK'S NAME] */
+#include <stdio.h>
+#include <stdlib.h>
+#include <string.h>
+#include <time.h>
+
+#include "bench.h"
+
+#define ROUNDS 9
+#define LEAST_SECONDS 0.004 /* a measured stretch is not shorter */
+#define MOST_RIVALS 3
+
+/* What a piece of work gives: the answers added up, and what it wrote last. */
+struct result {
+    struct lampholly_answer sum;
+    uint64_t list[LAMPHOLLY_LIST_WORDS];
+    int32_t table[LAMPHOLLY_TABLE_WORDS];
+    uint8_t text[LAMPHOLLY_TEXT_BYTES];
+};
+
+typedef struct lampholly_answer make_call(const int32_t *, size_t, struct lampholly_window, uint64_t *, size_t);
+typedef struct lampholly_answer tree_call(const int32_t *, size_t, const int16_t *, size_t, int32_t, int32_t);
+typedef struct lampholly_answer list_call(const int32_t *, size_t, const uint64_t *, size_t,
+                                          const int16_t *, size_t, int32_t, int32_t);
+typedef struct lampholly_answer read_call(const uint8_t *, size_t, int32_t *, size_t);
+typedef struct lampholly_answer write_call(const int32_t *, size_t, uint8_t *, size_t);
+
+/* The library comes first, then its peers; the call that is set says what is measured. */
+struct rival {
+    const char *name;
+    make_call *make;
+    tree_call *tree;
+    list_call *list;
+    read_call *read;
+    write_call *write;
+};
+
+struct work {
+    const char *name;
+    build *build;
+    int manner;
+    const struct rival *rivals;
+};
+
+static const struct rival makers[MOST_RIVALS] = {
+    {.name = "ours", .make = lampholly_make_list},
+    {.name = "write out, prune, hash", .make = peer_write_out},
+    {.name = "prune while expanding", .make = peer_expand},
+};
+static const struct rival tree_searchers[MOST_RIVALS] = {
+    {.name = "ours", .tree = lampholly_tree_search},
+    {.name = "tree, sample by sample", .tree = peer_tree_search},
+};
+static const struct rival list_searchers[MOST_RIVALS] = {
+    {.name = "ours", .list = lampholly_list_search},
+    {.name = "product by product", .list = peer_list_search},
+    {.name = "mask of primitives", .list = peer_mask_search},
+};
+static const struct rival readers[MOST_RIVALS] = {
+    {.name = "ours", .read = lampholly_read_text},
+    {.name = "once through", .read = peer_read_text},
+};
+static const struct rival writers[MOST_RIVALS] = {
+    {.name = "ours", .write = lampholly_write_text},
+    {.name = "once through", .write = peer_write_text},
+};
+
+static const struct work works[] = {
+    {"list: 65,536 choices, all kept", build_unions, KEPT, makers},
+    {"list: 65,536 choices, the window misses", build_unions, WINDOW_MISSES, makers},
+    {"list: 65,536 choices, the first union misses", build_unions, FIRST_MISSES, makers},
+    {"list: 65,536 choices, the last union misses", build_unions, LAST_MISSES, makers},
+    {"list: 4 x (A less fifteen cuts), near", build_cuts, NEAR, makers},
+    {"list: 4 x (A less fifteen cuts), half far", build_cuts, HALF_FAR, makers},
+    {"list: 4 x (A less fifteen cuts), far", build_cuts, FAR, makers},
+    {"list: sparse zones of 40 primitives", build_sparse, 40, makers},
+    {"list: sparse zones of 64 primitives", build_sparse, 64, makers},
+    {"tree, 3 products: frame mostly clear", build_frame, FEW | CLEAR, tree_searchers},
+    {"tree, 3 products: frame mostly inside", build_frame, FEW | INSIDE, tree_searchers},
+    {"tree, 3 products: frame toggling", build_frame, FEW | TOGGLING, tree_searchers},
+    {"tree, 100 products: frame mostly clear", build_frame, MANY | CLEAR, tree_searchers},
+    {"tree, 100 products: frame mostly inside", build_frame, MANY | INSIDE, tree_searchers},
+    {"tree, 100 products: frame toggling", build_frame, MANY | TOGGLING, tree_searchers},
+    {"tree, 3 products: 500 frames", build_screen, FEW | CLEAR, tree_searchers},
+    {"list, 3 products: frame mostly clear", build_frame, FEW | CLEAR, list_searchers},
+    {"list, 3 products: frame mostly inside", build_frame, FEW | INSIDE, list_searchers},
+    {"list, 3 products: frame toggling", build_frame, FEW | TOGGLING, list_searchers},
+    {"list, 100 products: frame mostly clear", build_frame, MANY | CLEAR, list_searchers},
+    {"list, 100 products: frame mostly inside", build_frame, MANY | INSIDE, list_searchers},
+    {"list, 100 products: frame toggling", build_frame, MANY | TOGGLING, list_searchers},
+    {"list, 3 products: 500 frames", build_screen, FEW | CLEAR, list_searchers},
+    {"text: reading 127 rows", build_text, 0, readers},
+    {"text: writing 127 rows", build_text, 0, writers},
+};
+
+static struct load whole, half;
+static struct result ours, theirs;
+
+/* No work here earns a refusal, which would be quick. */
+static void add(struct result *result, struct lampholly_answer answer)
+{
+    if (answer.kind == LAMPHOLLY_REFUSED)
+        abort();
+    result->sum.kind += answer.kind;
+    result->sum.value += answer.value;
+    result->sum.count += answer.count;
+}
+
+static void search_frames(const struct rival *rival, const struct load *load, struct result *result)
+{
+    const struct table *t = &load->zone[0];
+    for (size_t k = 0; k < load->frames; k++) {
+        const int16_t *codes = load->code + k * load->samples;
+        int32_t number = -(int32_t)k;
+        if (rival->tree != NULL)
+            add(result, rival->tree(t->word, t->words, codes, load->samples, load->first, number));
+        else
+            add(result, rival->list(t->word, t->words, load->list, load->list_words, codes, load->samples, load->first, number));
+    }
+}
+
+static void run(const struct rival *rival, const struct load *load, struct result *result)
+{
+    const struct table *t = &load->zone[0];
+    if (rival->make != NULL)
+        for (size_t i = 0; i < load->zones; i++)
+            add(result, rival->make(t[i].word, t[i].words, load->window, result->list, LAMPHOLLY_LIST_WORDS));
+    else if (rival->read != NULL)
+        add(result, rival->read(load->text.byte, load->text.bytes, result->table, LAMPHOLLY_TABLE_WORDS));
+    else if (rival->write != NULL)
+        add(result, rival->write(t->word, t->words, result->text, LAMPHOLLY_TEXT_BYTES));
+    else
+        search_frames(rival, load, result);
+}
+
+/* Every rival must come to the same, or its time says nothing. */
+static void must_agree(const struct work *work, const struct load *load)
+{
+    memset(&ours, 0, sizeof ours);
+    run(&work->rivals[0], load, &ours);
+    for (int r = 1; r < MOST_RIVALS && work->rivals[r].name != NULL; r++) {
+        memset(&theirs, 0, sizeof theirs);
+        run(&work->rivals[r], load, &theirs);
+        if (memcmp(&ours, &theirs, sizeof ours) != 0) {
+            printf("bench: %s: %s comes to something else\n", work->name, work->rivals[r].name);
+            exit(1);
+        }
+    }
+}
+
+static double now(void)
+{
+    struct timespec time;
+    clock_gettime(CLOCK_MONOTONIC, &time);
+    return (double)time.tv_sec + 1e-9 * (double)time.tv_nsec;
+}
+
+/* Seconds for one run, over at least so many turns as make a stretch. */
+static double stretch(const struct rival *rival, const struct load *load)
+{
+    double start = now(), end = start;
+    int turns = 0;
+    for (; end - start < LEAST_SECONDS; turns++) {
+        run(rival, load, &ours);
+        end = now();
+    }
+    return (end - start) / turns;
+}
+
+/* The rivals take turns, so that what else goes on hits all of them. */
+static void measure(const struct work *work, const struct load *load, double best[MOST_RIVALS])
+{
+    for (int round = 0; round < ROUNDS; round++) {
+        for (int r = 0; r < MOST_RIVALS && work->rivals[r].name != NULL; r++) {
+            double seconds = stretch(&work->rivals[r], load);
+            best[r] = round == 0 || seconds < best[r] ? seconds : best[r];
+        }
+    }
+}
+
+static void print_work(const struct work *work)
+{
+    double all[MOST_RIVALS], part[MOST_RIVALS];
+    work->build(&whole, work->manner, 0);
+    work->build(&half, work->manner, 1);
+    must_agree(work, &whole);
+    must_agree(work, &half);
+    measure(work, &whole, all);
+    measure(work, &half, part);
+    for (int r = 1; r < MOST_RIVALS && work->rivals[r].name != NULL; r++)
+        printf("%-46s %-24s %9.2f %9.2f %7.3f %7.2f %7.2f %7.2f\n", work->name, work->rivals[r].name, 1e6 * all[0], 1e6 * all[r],
+               all[0] / all[r], all[0] / part[0], all[r] / part[r], whole.work / half.work);
+}
+
+int main(int argc, char **argv)
+{
+    printf("%-46s %-24s %9s %9s %7s %7s %7s %7s\n", "work", "peer", "ours us", "peer us", "ratio", "growth", "peer's", "work's");
+    for (size_t i = 0; i < sizeof works / sizeof works[0]; i++)
+        if (argc < 2 || strstr(works[i].name, argv[1]) != NULL)
+            print_work(&works[i]);
+    return 0;
+}

@@ -1,0 +1,45 @@
+/* What the parts of the benchmark share. */
+#ifndef BENCH_H
+#define BENCH_H
+
+#include "inputs.h"
+#include "peers.h"
+
+#define MOST_ZONES 16
+#define MOST_FRAMES 500
+#define SCREEN_COLUMNS 1024
+
+/* What one measured piece of work is given. Every frame has the same number of samples; frame k has the number -k. */
+struct load {
+    size_t zones;
+    struct table zone[MOST_ZONES];
+    struct lampholly_window window;
+    size_t list_words;
+    uint64_t list[8 + 2 * 128];
+    size_t frames, samples;
+    int32_t first;
+    int16_t code[MOST_FRAMES * SCREEN_COLUMNS];
+    struct text text;
+    double work; /* choices, samples or rows */
+};
+
+/* Half of the work is built in the same manner as the whole. */
+typedef void build(struct load *load, int manner, int is_half);
+
+/* bench_zones.c: zones to make lists of. */
+enum { KEPT, WINDOW_MISSES, FIRST_MISSES, LAST_MISSES };
+enum { NEAR, HALF_FAR, FAR };
+build build_unions, build_cuts, build_sparse;
+
+/* Parts of a table, added at its end; each gives its row. */
+int32_t add_box(struct table *table, int32_t xlo, int32_t xhi, int32_t ylo, int32_t yhi);
+int32_t add_wedge(struct table *table, int32_t xlo, int32_t xhi, int32_t ylo, int32_t yhi, int32_t a, int32_t b, int32_t d);
+int32_t add_drum(struct table *table, int32_t cx, int32_t cy, int32_t rx, int32_t ry);
+int32_t add_operation(struct table *table, int32_t operation, int32_t left, int32_t right);
+
+/* bench_frames.c: frames to search, and texts. */
+enum { FEW, MANY };
+enum { CLEAR = 0, INSIDE = 2, TOGGLING = 4 };
+build build_frame, build_screen, build_text;
+
+#endif

@@ -1,0 +1,116 @@
+/* Frames that are searched and texts that are read and written in the benchmark. */
+#include "bench.h"
+
+static const struct lampholly_window full = {LOWEST, HIGHEST, LOWEST, HIGHEST, LOWEST, HIGHEST};
+
+/* Three products of two, three and four primitives, which hold most codes about 10,000. */
+static void put_few(struct table *t)
+{
+    t->words = 0;
+    int32_t one = add_operation(t, INTER, add_box(t, LOWEST, -9000, 8000, 12000), add_wedge(t, LOWEST, -8000, 7000, 13000, 1, 2, 20000));
+    int32_t two = add_operation(t, DIFF, add_box(t, -9500, 9500, 9000, 14000), add_drum(t, 0, 13000, 900, 700));
+    two = add_operation(t, DIFF, two, add_box(t, 1000, 1400, 9000, 14000));
+    int32_t three = add_operation(t, INTER, add_box(t, 9000, HIGHEST, 7000, 13000), add_box(t, 8000, HIGHEST, 7500, 12500));
+    three = add_operation(t, INTER, three, add_wedge(t, 9000, HIGHEST, 7000, 13000, -1, 2, 20000));
+    three = add_operation(t, DIFF, three, add_drum(t, 20000, 9000, 500, 900));
+    add_operation(t, UNION, add_operation(t, UNION, one, two), three);
+}
+
+/* A union of stripes of columns, crossed with a union of bands of codes from 5,000 to 15,000. */
+static int32_t add_grid(struct table *t, int32_t xlo, int32_t xhi, int32_t stripes, int32_t bands)
+{
+    int32_t across = -1, up = -1, width = (xhi - xlo + 1) / stripes, height = 10000 / bands;
+    for (int32_t i = 0; i < stripes; i++) {
+        int32_t box = add_box(t, xlo + i * width, i == stripes - 1 ? xhi : xlo + (i + 1) * width - 1, LOWEST, HIGHEST);
+        across = across < 0 ? box : add_operation(t, UNION, across, box);
+    }
+    for (int32_t i = 0; i < bands; i++) {
+        int32_t box = add_box(t, xlo, xhi, 5000 + i * height, i == bands - 1 ? 15000 : 5000 + (i + 1) * height - 1);
+        up = up < 0 ? box : add_operation(t, UNION, up, box);
+    }
+    return add_operation(t, INTER, across, up);
+}
+
+static int32_t add_small(struct table *t, int32_t i)
+{
+    int32_t x = -32000 + 1600 * i, y = 16000 + 300 * (i % 40);
+    switch (i % 3) {
+    case 0: return add_box(t, x, x + 1500, y, y + 900);
+    case 1: return add_wedge(t, x, x + 1500, y, y + 900, 1, 1, x + y + 1200);
+    default: return add_drum(t, x + 700, y + 500, 700, 500);
+    }
+}
+
+/* 5 x 5 and 3 x 12 rectangles and 39 small shapes: 100 products over 64 primitives. */
+static void put_many(struct table *t)
+{
+    t->words = 0;
+    int32_t all = add_operation(t, UNION, add_grid(t, LOWEST, -1, 5, 5), add_grid(t, 0, HIGHEST, 3, 12));
+    for (int32_t i = 0; i < 39; i++)
+        all = add_operation(t, UNION, all, add_small(t, i));
+}
+
+/* A code for each sample: quiet with a pulse now and then, noise within the zone, or up and down. */
+static int16_t any_code(int manner, size_t k)
+{
+    switch (manner) {
+    case CLEAR: return (int16_t)(k % 1000 / 6 == 80 ? between(9500, 10500) : between(-20, 20));
+    case INSIDE: return (int16_t)between(9600, 10400);
+    default: return (int16_t)(k % 2 == 0 ? 30000 : -30000);
+    }
+}
+
+static void put_codes(struct load *load, int manner)
+{
+    start_case(50, (uint64_t)manner);
+    for (size_t k = 0; k < load->frames * load->samples; k++)
+        load->code[k] = any_code(manner, k);
+    load->work = (double)(load->frames * load->samples);
+}
+
+static void put_zone(struct load *load, int zone)
+{
+    load->zones = 1;
+    load->window = full;
+    if (zone == FEW)
+        put_few(&load->zone[0]);
+    else
+        put_many(&load->zone[0]);
+    load->list_words = peer_expand(load->zone[0].word, load->zone[0].words, full, load->list, sizeof load->list / 8).value;
+}
+
+/* One frame over all columns; for the half, over the first half of them. The manner is a zone's and a frame's together. */
+void build_frame(struct load *load, int manner, int is_half)
+{
+    put_zone(load, manner & 1);
+    load->frames = 1;
+    load->samples = is_half ? 32768 : 65536;
+    load->first = is_half ? -16384 : LOWEST;
+    put_codes(load, manner & ~1);
+}
+
+/* A screenful of frames; for the half, half as many. */
+void build_screen(struct load *load, int manner, int is_half)
+{
+    put_zone(load, manner & 1);
+    load->frames = is_half ? MOST_FRAMES / 2 : MOST_FRAMES;
+    load->samples = SCREEN_COLUMNS;
+    load->first = -SCREEN_COLUMNS / 2;
+    put_codes(load, manner & ~1);
+}
+
+/* A zone of 127 rows and its text; for the half, of 63 rows. */
+void build_text(struct load *load, int manner, int is_half)
+{
+    struct table *table = &load->zone[0];
+    int32_t shapes = is_half ? 32 : 64, all = -1;
+    (void)manner;
+    load->zones = 1;
+    table->words = 0;
+    for (int32_t i = 0; i < shapes; i++) {
+        int32_t small = add_small(table, i % 40);
+        all = all < 0 ? small : add_operation(table, (int32_t)(UNION + i % 3), all, small);
+    }
+    text_of(&load->text, table);
+    load->work = (double)(table->words / ROW_WORDS);
+}

@@ -1,0 +1,161 @@
+/* One call, asked of plain and of the library; on any difference in the answer or in a lent buffer the test ends. */
+#include <inttypes.h>
+#include <signal.h>
+#include <stdio.h>
+#include <stdlib.h>
+
+#include "differ.h"
+
+/* A buffer as it is lent to the library, and what it must hold afterwards. */
+struct loan {
+    struct lent lent;
+    const void *content;
+    void *at;
+};
+
+static struct loan table, list, codes, text;
+
+/* What plain writes into; filled with chance first, so that each byte that must stay is seen to stay. */
+static int32_t wanted_table[TABLE_ROOM];
+static uint64_t wanted_list[LIST_ROOM];
+static uint8_t wanted_text[TEXT_ROOM];
+
+static uint64_t seed_now, case_now;
+static const struct question *asked;
+
+static void print_place(void)
+{
+    printf("differ: %s, seed %" PRIu64 ", case %" PRIu64, call_name[asked->call], seed_now, case_now);
+    printf(" (`compare/run %" PRIu64 " 1 %" PRIu64 "` runs it alone)\n", seed_now, case_now);
+    show_question(asked);
+}
+
+static void end_by_touch(int number)
+{
+    (void)number;
+    printf("differ: what was not lent was touched\n");
+    print_place();
+    exit(1);
+}
+
+void open_calls(uint64_t seed)
+{
+    seed_now = seed;
+    signal(SIGSEGV, end_by_touch);
+    signal(SIGBUS, end_by_touch);
+    open_lent(&table.lent, sizeof wanted_table);
+    open_lent(&list.lent, sizeof wanted_list);
+    open_lent(&codes.lent, FRAME_ROOM * sizeof(int16_t));
+    open_lent(&text.lent, sizeof wanted_text);
+}
+
+void begin_case(uint64_t number)
+{
+    case_now = number;
+    start_case(seed_now, number);
+}
+
+static void lend_to_read(struct loan *loan, const void *content, size_t bytes)
+{
+    loan->content = content;
+    loan->at = lend(&loan->lent, content, bytes);
+}
+
+static void lend_to_write(struct loan *loan, void *wanted, size_t bytes)
+{
+    fill(wanted, bytes);
+    lend_to_read(loan, wanted, bytes);
+}
+
+/* A buffer that the call does not take is lent with no bytes. */
+static void lend_all(const struct question *q)
+{
+    const struct frame *frame = q->frame;
+    if (q->call == READ_TEXT)
+        lend_to_write(&table, wanted_table, q->room * sizeof wanted_table[0]);
+    else
+        lend_to_read(&table, q->table->word, q->table->words * sizeof q->table->word[0]);
+    if (q->call == MAKE_LIST)
+        lend_to_write(&list, wanted_list, q->room * sizeof wanted_list[0]);
+    else
+        lend_to_read(&list, q->list ? q->list->word : NULL, q->list ? q->list->words * sizeof q->list->word[0] : 0);
+    if (q->call == WRITE_TEXT)
+        lend_to_write(&text, wanted_text, q->room);
+    else
+        lend_to_read(&text, q->text ? q->text->byte : NULL, q->text ? q->text->bytes : 0);
+    lend_to_read(&codes, frame ? frame->code : NULL, frame ? frame->samples * sizeof frame->code[0] : 0);
+}
+
+static struct plain_window as_plain(struct lampholly_window w)
+{
+    struct plain_window window = {w.xlo, w.xhi, w.ylo, w.yhi, w.zlo, w.zhi};
+    return window;
+}
+
+static struct plain_answer ask_plain(const struct question *q)
+{
+    const struct table *t = q->table;
+    const struct list *l = q->list;
+    const struct frame *f = q->frame;
+    const int32_t *p = q->point.at;
+    switch (q->call) {
+    case CHECK: return plain_check(t->word, t->words);
+    case TREE_POINT: return plain_tree_point(t->word, t->words, p[0], p[1], p[2]);
+    case TREE_SEARCH: return plain_tree_search(t->word, t->words, f->code, f->samples, f->first, f->number);
+    case MAKE_LIST: return plain_make_list(t->word, t->words, as_plain(q->window), wanted_list, q->room);
+    case LIST_POINT: return plain_list_point(t->word, t->words, l->word, l->words, p[0], p[1], p[2]);
+    case LIST_SEARCH:
+        return plain_list_search(t->word, t->words, l->word, l->words, f->code, f->samples, f->first, f->number);
+    case READ_TEXT: return plain_read_text(q->text->byte, q->text->bytes, wanted_table, q->room);
+    default: return plain_write_text(t->word, t->words, wanted_text, q->room);
+    }
+}
+
+static struct lampholly_answer ask_library(const struct question *q)
+{
+    const struct table *t = q->table;
+    const struct list *l = q->list;
+    const struct frame *f = q->frame;
+    const int32_t *p = q->point.at;
+    switch (q->call) {
+    case CHECK: return lampholly_check(table.at, t->words);
+    case TREE_POINT: return lampholly_tree_point(table.at, t->words, p[0], p[1], p[2]);
+    case TREE_SEARCH: return lampholly_tree_search(table.at, t->words, codes.at, f->samples, f->first, f->number);
+    case MAKE_LIST: return lampholly_make_list(table.at, t->words, q->window, list.at, q->room);
+    case LIST_POINT: return lampholly_list_point(table.at, t->words, list.at, l->words, p[0], p[1], p[2]);
+    case LIST_SEARCH:
+        return lampholly_list_search(table.at, t->words, list.at, l->words, codes.at, f->samples, f->first, f->number);
+    case READ_TEXT: return lampholly_read_text(text.at, q->text->bytes, table.at, q->room);
+    default: return lampholly_write_text(table.at, t->words, text.at, q->room);
+    }
+}
+
+/* What is wrong with the outcome, NULL for nothing. */
+static const char *fault(struct plain_answer want, struct lampholly_answer got)
+{
+    if (want.kind != got.kind || want.value != got.value || want.count != got.count)
+        return "the answers differ";
+    if (!holds(&table.lent, table.content))
+        return "the table's buffer differs";
+    if (!holds(&list.lent, list.content))
+        return "the list's buffer differs";
+    if (!holds(&codes.lent, codes.content))
+        return "the frame's buffer differs";
+    return holds(&text.lent, text.content) ? NULL : "the text's buffer differs";
+}
+
+void ask(struct question question)
+{
+    asked = &question;
+    lend_all(&question);
+    struct plain_answer want = ask_plain(&question);
+    struct lampholly_answer got = ask_library(&question);
+    const char *what = fault(want, got);
+    if (what != NULL) {
+        printf("differ: %s: plain %" PRIu64 " %" PRIu64 " %" PRIu64, what, want.kind, want.value, want.count);
+        printf(", library %" PRIu64 " %" PRIu64 " %" PRIu64 "\n", got.kind, got.value, got.count);
+        print_place();
+        exit(1);
+    }
+    tally(question.call, want);
+}

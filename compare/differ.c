@@ -1,0 +1,147 @@
+/* The differential test: plain against the library over all eight calls. Use: differ SEED COUNT [FIRST CASE] */
+#include <stdio.h>
+#include <stdlib.h>
+
+#include "differ.h"
+
+/* From so many cases on, every answer and refusal of every call must have been seen. */
+#define MANY_CASES 5000
+
+static const struct lampholly_window full = {LOWEST, HIGHEST, LOWEST, HIGHEST, LOWEST, HIGHEST};
+
+/* The zone of the case, a damaged copy or the same, and another zone. */
+static struct table zone, lent_zone, other_zone;
+static struct list list;
+static struct frame frame;
+static struct text text;
+
+static void ask_tree(void)
+{
+    struct question check = {.call = CHECK, .table = &lent_zone};
+    struct question point = {.call = TREE_POINT, .table = &lent_zone};
+    struct question search = {.call = TREE_SEARCH, .table = &lent_zone, .frame = &frame};
+    ask(check);
+    for (int turn = 0; turn < 4; turn++) {
+        point.point = any_point(&lent_zone, full);
+        ask(point);
+    }
+    any_frame(&frame, &lent_zone, full);
+    ask(search);
+}
+
+/* Makes the list by plain, to the full; a refusal leaves a list of no words. */
+static struct plain_answer make_list(const struct table *table, struct lampholly_window w)
+{
+    struct plain_window window = {w.xlo, w.xhi, w.ylo, w.yhi, w.zlo, w.zhi};
+    struct plain_answer made = plain_make_list(table->word, table->words, window, list.word, LIST_ROOM);
+    list.words = made.kind == 0 ? made.value : 0;
+    return made;
+}
+
+static void ask_make_list(struct lampholly_window window)
+{
+    struct plain_answer made = make_list(&lent_zone, window);
+    size_t needed = made.kind == 0 ? made.value : 8;
+    struct question make = {.call = MAKE_LIST, .table = &lent_zone, .window = window};
+    make.room = any_room(needed, LIST_ROOM);
+    ask(make);
+    /* Small lists take little time: a second room. */
+    if (needed < 1000) {
+        make.room = any_room(needed, LIST_ROOM);
+        ask(make);
+    }
+}
+
+/* As made; or of another zone or another window; or damaged. */
+static void any_list(struct lampholly_window window)
+{
+    if (one_in(8)) {
+        any_zone(&other_zone);
+        make_list(&other_zone, one_in(2) ? window : full);
+    } else {
+        make_list(&zone, window);
+    }
+    if (list.words == 0 && !one_in(8))
+        make_list(&zone, full);
+    if (list.words >= 8 && one_in(3))
+        damage_list(&list);
+}
+
+static void ask_list(struct lampholly_window window)
+{
+    const struct table *table = one_in(3) ? &lent_zone : &zone;
+    struct question point = {.call = LIST_POINT, .table = table, .list = &list};
+    struct question search = {.call = LIST_SEARCH, .table = table, .list = &list, .frame = &frame};
+    any_list(window);
+    for (int turn = 0; turn < 4; turn++) {
+        point.point = any_point(&zone, window_of(&list));
+        ask(point);
+    }
+    for (int turn = 0; turn < 2; turn++) {
+        do
+            any_frame(&frame, &zone, window_of(&list));
+        while (frame.samples > 100 && list.words > 2000); /* a sample goes through the whole list */
+        ask(search);
+    }
+}
+
+static void ask_write_text(void)
+{
+    struct plain_answer written = plain_write_text(lent_zone.word, lent_zone.words, text.byte, TEXT_ROOM);
+    struct question write = {.call = WRITE_TEXT, .table = &lent_zone};
+    write.room = any_room(written.kind == 0 ? written.value : 20, TEXT_ROOM);
+    ask(write);
+}
+
+static void ask_read_text(void)
+{
+    struct question read = {.call = READ_TEXT, .text = &text};
+    for (int turn = 0; turn < 3; turn++) {
+        text_of(&text, one_in(3) ? &lent_zone : &zone);
+        if (one_in(2))
+            damage_text(&text);
+        read.room = any_room(zone.words, TABLE_ROOM);
+        ask(read);
+    }
+}
+
+/* A frame that the zone may hold from its first sample to its last. */
+static void ask_long(void)
+{
+    struct question tree = {.call = TREE_SEARCH, .table = &zone, .frame = &frame};
+    struct question by_list = {.call = LIST_SEARCH, .table = &zone, .list = &list, .frame = &frame};
+    any_long_zone(&zone);
+    level_frame(&frame, &zone);
+    make_list(&zone, full);
+    ask(tree);
+    ask(by_list);
+}
+
+static void run_case(uint64_t number)
+{
+    begin_case(number);
+    if (one_in(100))
+        ask_long();
+    any_zone(&zone);
+    lent_zone = zone;
+    if (one_in(4))
+        damage_table(&lent_zone);
+    struct lampholly_window window = any_window(&zone);
+    ask_tree();
+    ask_make_list(window);
+    ask_list(window);
+    ask_write_text();
+    ask_read_text();
+}
+
+int main(int argc, char **argv)
+{
+    uint64_t seed = argc > 1 ? strtoull(argv[1], NULL, 10) : 1;
+    uint64_t count = argc > 2 ? strtoull(argv[2], NULL, 10) : 10000;
+    uint64_t first = argc > 3 ? strtoull(argv[3], NULL, 10) : 0;
+    open_calls(seed);
+    for (uint64_t number = first; number < first + count; number++)
+        run_case(number);
+    print_tally(seed, count);
+    return count < MANY_CASES || is_all_seen() ? 0 : 1;
+}

@@ -1,0 +1,102 @@
+/* Random frames: quiet, ramping, toggling, wandering and noisy codes about the edges of a zone and a window. */
+#include "inputs.h"
+
+static size_t any_length(void)
+{
+    if (one_in(30))
+        return 0;
+    if (one_in(300))
+        return (size_t)ONE_OF(65535, 65536, 65536, 65537);
+    switch (below(8)) {
+    case 0: return 1;
+    case 1: return (size_t)between(61, 700);
+    case 2: return (size_t)ONE_OF(2, 7, 8, 9, 15, 16, 17, 31, 32, 33, 63, 64, 65);
+    default: return (size_t)between(2, 60);
+    }
+}
+
+/* A code for each sample, in one of several manners; the holder keeps it to 16 bits. */
+static void put_codes(struct frame *frame, const struct table *table)
+{
+    unsigned manner = (unsigned)below(6);
+    int64_t one = any_aim(table, 1), other = any_aim(table, 1), at = one;
+    int64_t step = between(-3, 3);
+    for (size_t k = 0; k < frame->samples; k++) {
+        switch (manner) {
+        case 0: at = one_in(20) ? other : one; break;
+        case 1: at += step; break;
+        case 2: at = k % 2 == 0 ? one : other; break;
+        case 3: at += between(-2, 2); break;
+        case 4: at = k < 4096 ? any_aim(table, 1) : at + between(-2, 2); break;
+        default: at = one + between(-1, 1); break;
+        }
+        frame->code[k] = (int16_t)clamped(at, LOWEST, HIGHEST);
+    }
+}
+
+static void keep_codes(struct frame *frame, struct lampholly_window window)
+{
+    for (size_t k = 0; k < frame->samples; k++)
+        frame->code[k] = (int16_t)clamped(frame->code[k], window.ylo, window.yhi);
+}
+
+/* One sample leaves the window by its code: the first, the last, or one between. */
+static void breach(struct frame *frame, struct lampholly_window window)
+{
+    size_t last = frame->samples - 1;
+    size_t at = (size_t)ONE_OF(0, (int64_t)last, (int64_t)last / 2, (int64_t)below(last + 1));
+    int64_t code = one_in(2) ? (int64_t)window.ylo - 1 : (int64_t)window.yhi + 1;
+    frame->code[at] = (int16_t)clamped(code, LOWEST, HIGHEST);
+}
+
+/* The frame lies about the aim, then as a whole within the window if it can. */
+static int64_t any_first(size_t samples, const struct table *table, struct lampholly_window window)
+{
+    int64_t length = (int64_t)samples;
+    int64_t first = any_aim(table, 0) - (length > 0 ? (int64_t)below(samples) : 0);
+    int64_t lo = window.xlo, hi = (int64_t)window.xhi - length + 1;
+    if (!one_in(6) && lo <= hi)
+        first = clamped(first, lo, hi);
+    if (one_in(10))
+        first = ONE_OF(lo, lo - 1, hi, hi + 1);
+    if (length > 60000 && !one_in(4))
+        first = LOWEST;
+    if (one_in(24))
+        first = ONE_OF(LOWEST, LOWEST - 1, HIGHEST - length + 1, HIGHEST - length + 2, HIGHEST, INT32_MIN, INT32_MAX,
+                       INT32_MAX - length);
+    return clamped(first, INT32_MIN, INT32_MAX);
+}
+
+static int64_t any_number(const struct table *table, struct lampholly_window window)
+{
+    int64_t number = any_aim(table, 2);
+    if (!one_in(6))
+        number = clamped(number, window.zlo, window.zhi);
+    if (one_in(24))
+        number = ONE_OF(LOWEST - 1, HIGHEST + 1, LOWEST, HIGHEST, INT32_MIN, INT32_MAX);
+    return clamped(number, INT32_MIN, INT32_MAX);
+}
+
+void any_frame(struct frame *frame, const struct table *table, struct lampholly_window window)
+{
+    frame->samples = any_length();
+    frame->first = (int32_t)any_first(frame->samples, table, window);
+    frame->number = (int32_t)any_number(table, window);
+    put_codes(frame, table);
+    if (!one_in(8))
+        keep_codes(frame, window);
+    if (frame->samples > 0 && one_in(5))
+        breach(frame, window);
+}
+
+/* One code in all columns, or in all but the last, at the middle of the zone's first box. */
+void level_frame(struct frame *frame, const struct table *table)
+{
+    int64_t lo[3], hi[3];
+    bounds_of(table->word, lo, hi);
+    frame->samples = (size_t)between(65535, 65536);
+    frame->first = LOWEST;
+    frame->number = (int32_t)((lo[2] + hi[2]) / 2);
+    for (size_t k = 0; k < frame->samples; k++)
+        frame->code[k] = (int16_t)((lo[1] + hi[1]) / 2);
+}

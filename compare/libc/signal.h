@@ -1,0 +1,9 @@
+#ifndef LIBC_SIGNAL_H
+#define LIBC_SIGNAL_H
+
+#define SIGBUS 7
+#define SIGSEGV 11
+
+void (*signal(int, void (*)(int)))(int);
+
+#endif

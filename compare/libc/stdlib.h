@@ -1,0 +1,12 @@
+#ifndef LIBC_STDLIB_H
+#define LIBC_STDLIB_H
+
+#include <stddef.h>
+
+void *malloc(size_t);
+void free(void *);
+void abort(void);
+void exit(int);
+unsigned long long strtoull(const char *, char **, int);
+
+#endif

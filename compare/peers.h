@@ -1,0 +1,83 @@
+/* The peers of the benchmark: the calls as one would write them in C by the usual means, with a heap, a hash and recursion. */
+#ifndef PEERS_H
+#define PEERS_H
+
+#include "inputs.h"
+
+struct peer_box {
+    int32_t lo[3], hi[3];
+};
+
+struct peer_row {
+    int32_t kind, left, right; /* of a primitive, left is its number */
+};
+
+/* A sound table, taken apart. */
+struct peer_zone {
+    int32_t rows, primitives;
+    struct peer_row row[MOST_ROWS];
+    const int32_t *words[MOST_PRIMITIVES];
+    struct peer_box box[MOST_PRIMITIVES];
+};
+
+/* A product, or a choice on the way to one. */
+struct product {
+    uint64_t uncomplemented, complemented;
+};
+
+static inline struct peer_box box_cut(struct peer_box one, struct peer_box other)
+{
+    for (int axis = 0; axis < 3; axis++) {
+        one.lo[axis] = one.lo[axis] > other.lo[axis] ? one.lo[axis] : other.lo[axis];
+        one.hi[axis] = one.hi[axis] < other.hi[axis] ? one.hi[axis] : other.hi[axis];
+    }
+    return one;
+}
+
+static inline int box_is_empty(struct peer_box box)
+{
+    return box.lo[0] > box.hi[0] || box.lo[1] > box.hi[1] || box.lo[2] > box.hi[2];
+}
+
+/* Drops the cuts whose box shares no point with the product's. */
+static inline struct product without_far_cuts(const struct peer_zone *zone, struct product product, struct peer_box box)
+{
+    for (uint64_t left = product.complemented; left != 0; left &= left - 1) {
+        int i = __builtin_ctzll(left);
+        if (box_is_empty(box_cut(box, zone->box[i])))
+            product.complemented &= ~((uint64_t)1 << i);
+    }
+    return product;
+}
+
+/* peer_table.c */
+struct lampholly_answer peer_done(uint64_t written);
+struct lampholly_answer peer_refused(uint64_t number, uint64_t value);
+struct lampholly_answer peer_check(const int32_t *table, size_t words);
+struct lampholly_answer peer_open(const int32_t *table, size_t words, struct peer_zone *zone);
+
+/* peer_make.c: two ways to make a list. */
+struct lampholly_answer peer_write_out(const int32_t *table, size_t words, struct lampholly_window window,
+                                       uint64_t *list, size_t room);
+struct lampholly_answer peer_expand(const int32_t *table, size_t words, struct lampholly_window window,
+                                    uint64_t *list, size_t room);
+
+/* peer_prune.c: what both ways share. */
+struct peer_box box_of_window(struct lampholly_window window);
+struct lampholly_answer peer_prepare(const int32_t *table, size_t words, struct lampholly_window window, struct peer_zone *zone);
+struct lampholly_answer peer_finish(const struct peer_zone *zone, struct lampholly_window window,
+                                    struct product *products, size_t count, uint64_t *list, size_t room);
+
+/* peer_search.c: every sample evaluated on its own, in the tree, product by product, or by a mask of primitives. */
+struct lampholly_answer peer_tree_search(const int32_t *table, size_t words,
+                                         const int16_t *codes, size_t samples, int32_t first, int32_t frame);
+struct lampholly_answer peer_list_search(const int32_t *table, size_t words, const uint64_t *list, size_t list_words,
+                                         const int16_t *codes, size_t samples, int32_t first, int32_t frame);
+struct lampholly_answer peer_mask_search(const int32_t *table, size_t words, const uint64_t *list, size_t list_words,
+                                         const int16_t *codes, size_t samples, int32_t first, int32_t frame);
+
+/* peer_text.c */
+struct lampholly_answer peer_read_text(const uint8_t *text, size_t bytes, int32_t *table, size_t room);
+struct lampholly_answer peer_write_text(const int32_t *table, size_t words, uint8_t *text, size_t room);
+
+#endif

@@ -1,0 +1,41 @@
+/* A plain implementation of the rules for search zones: the calls and their answers. */
+#ifndef PLAIN_H
+#define PLAIN_H
+
+#include <stddef.h>
+#include <stdint.h>
+
+/* kind 0: clear, outside, sound, or written (value: words or bytes written, else 0)
+   kind 1: inside (0, 0), or hit (value: position of the first inside sample, count: inside samples)
+   kind 2: refused (value: the refusal's number, count: its value) */
+struct plain_answer {
+    uint64_t kind, value, count;
+};
+
+struct plain_window {
+    int32_t xlo, xhi, ylo, yhi, zlo, zhi;
+};
+
+/* A refusal leaves every lent buffer as it was; what lies beyond a result in its buffer stays too. */
+
+struct plain_answer plain_check(const int32_t *table, size_t words);
+
+struct plain_answer plain_tree_point(const int32_t *table, size_t words, int32_t x, int32_t y, int32_t z);
+
+struct plain_answer plain_tree_search(const int32_t *table, size_t words,
+                                      const int16_t *codes, size_t samples, int32_t first, int32_t frame);
+
+struct plain_answer plain_make_list(const int32_t *table, size_t words, struct plain_window window,
+                                    uint64_t *list, size_t room);
+
+struct plain_answer plain_list_point(const int32_t *table, size_t words, const uint64_t *list, size_t list_words,
+                                     int32_t x, int32_t y, int32_t z);
+
+struct plain_answer plain_list_search(const int32_t *table, size_t words, const uint64_t *list, size_t list_words,
+                                      const int16_t *codes, size_t samples, int32_t first, int32_t frame);
+
+struct plain_answer plain_read_text(const uint8_t *text, size_t bytes, int32_t *table, size_t room);
+
+struct plain_answer plain_write_text(const int32_t *table, size_t words, uint8_t *text, size_t room);
+
+#endif

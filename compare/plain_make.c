@@ -1,0 +1,266 @@
+/* Making a list: choosing, pruning, ordering; refusals 6 to 8. */
+#include <stdlib.h>
+
+#include "plain_parts.h"
+
+#define MOST_CHOICES 65536
+
+/* A choice, later a product: a bit for each of its primitives. */
+struct choice {
+    uint64_t uncomplemented, complemented;
+};
+
+struct choices {
+    size_t count;
+    struct choice *at;
+};
+
+struct box {
+    int64_t lo[3], hi[3];
+};
+
+/* The expansion counts. 64 primitives give at most 4 * 3^20 choices, so 64 bits hold every count. */
+
+static uint64_t count_out(const struct zone *zone, size_t number);
+
+static uint64_t count_in(const struct zone *zone, size_t number)
+{
+    const int32_t *row = zone->row[number];
+    switch (row[0]) {
+    case UNION: return count_in(zone, row[1]) + count_in(zone, row[2]);
+    case INTER: return count_in(zone, row[1]) * count_in(zone, row[2]);
+    case DIFF: return count_in(zone, row[1]) * count_out(zone, row[2]);
+    default: return 1;
+    }
+}
+
+static uint64_t count_out(const struct zone *zone, size_t number)
+{
+    const int32_t *row = zone->row[number];
+    switch (row[0]) {
+    case UNION: return count_out(zone, row[1]) * count_out(zone, row[2]);
+    case INTER: return count_out(zone, row[1]) + count_out(zone, row[2]);
+    case DIFF: return count_out(zone, row[1]) + count_in(zone, row[2]);
+    default: return 1;
+    }
+}
+
+/* The choices themselves, all written out. */
+
+static struct choices room_for(size_t count)
+{
+    struct choices choices = {count, malloc(count * sizeof(struct choice))};
+    if (choices.at == NULL)
+        abort();
+    return choices;
+}
+
+static struct choices one_choice(uint64_t uncomplemented, uint64_t complemented)
+{
+    struct choices one = room_for(1);
+    one.at[0].uncomplemented = uncomplemented;
+    one.at[0].complemented = complemented;
+    return one;
+}
+
+static struct choices left_then_right(struct choices left, struct choices right)
+{
+    struct choices both = room_for(left.count + right.count);
+    for (size_t l = 0; l < left.count; l++)
+        both.at[l] = left.at[l];
+    for (size_t r = 0; r < right.count; r++)
+        both.at[left.count + r] = right.at[r];
+    free(left.at);
+    free(right.at);
+    return both;
+}
+
+/* All left choices for the first right choice, then all of them for the second, and so on. */
+static struct choices crossed(struct choices left, struct choices right)
+{
+    struct choices cross = room_for(left.count * right.count);
+    size_t k = 0;
+    for (size_t r = 0; r < right.count; r++) {
+        for (size_t l = 0; l < left.count; l++) {
+            cross.at[k].uncomplemented = left.at[l].uncomplemented | right.at[r].uncomplemented;
+            cross.at[k].complemented = left.at[l].complemented | right.at[r].complemented;
+            k++;
+        }
+    }
+    free(left.at);
+    free(right.at);
+    return cross;
+}
+
+static uint64_t bit(size_t primitive)
+{
+    return (uint64_t)1 << primitive;
+}
+
+static size_t primitive_number(const struct zone *zone, const int32_t *row)
+{
+    size_t i = 0;
+    while (zone->primitive[i] != row)
+        i++;
+    return i;
+}
+
+static struct choices choices_out(const struct zone *zone, size_t number);
+
+static struct choices choices_in(const struct zone *zone, size_t number)
+{
+    const int32_t *row = zone->row[number];
+    switch (row[0]) {
+    case UNION: return left_then_right(choices_in(zone, row[1]), choices_in(zone, row[2]));
+    case INTER: return crossed(choices_in(zone, row[1]), choices_in(zone, row[2]));
+    case DIFF: return crossed(choices_in(zone, row[1]), choices_out(zone, row[2]));
+    default: return one_choice(bit(primitive_number(zone, row)), 0);
+    }
+}
+
+static struct choices choices_out(const struct zone *zone, size_t number)
+{
+    const int32_t *row = zone->row[number];
+    switch (row[0]) {
+    case UNION: return crossed(choices_out(zone, row[1]), choices_out(zone, row[2]));
+    case INTER: return left_then_right(choices_out(zone, row[1]), choices_out(zone, row[2]));
+    case DIFF: return left_then_right(choices_out(zone, row[1]), choices_in(zone, row[2]));
+    default: return one_choice(0, bit(primitive_number(zone, row)));
+    }
+}
+
+/* Boxes. */
+
+static struct box box_of_bounds(int64_t xlo, int64_t xhi, int64_t ylo, int64_t yhi, int64_t zlo, int64_t zhi)
+{
+    struct box box = {{xlo, ylo, zlo}, {xhi, yhi, zhi}};
+    return box;
+}
+
+static struct box box_of_window(struct plain_window w)
+{
+    return box_of_bounds(w.xlo, w.xhi, w.ylo, w.yhi, w.zlo, w.zhi);
+}
+
+static struct box box_of_primitive(const int32_t *row)
+{
+    int64_t cx = row[1], cy = row[2], rx = row[3], ry = row[4];
+    if (row[0] == DRUM)
+        return box_of_bounds(cx - rx, cx + rx, cy - ry, cy + ry, row[5], row[6]);
+    return box_of_bounds(row[1], row[2], row[3], row[4], row[5], row[6]);
+}
+
+static struct box box_cut_with(struct box one, struct box other)
+{
+    struct box cut;
+    for (int axis = 0; axis < 3; axis++) {
+        cut.lo[axis] = one.lo[axis] > other.lo[axis] ? one.lo[axis] : other.lo[axis];
+        cut.hi[axis] = one.hi[axis] < other.hi[axis] ? one.hi[axis] : other.hi[axis];
+    }
+    return cut;
+}
+
+static int holds_no_point(struct box box)
+{
+    return box.lo[0] > box.hi[0] || box.lo[1] > box.hi[1] || box.lo[2] > box.hi[2];
+}
+
+/* Pruning. */
+
+static struct box product_box(const struct zone *zone, struct choice product, struct plain_window window)
+{
+    struct box box = box_of_window(window);
+    for (size_t i = 0; i < zone->primitives; i++)
+        if (product.uncomplemented & bit(i))
+            box = box_cut_with(box, box_of_primitive(zone->primitive[i]));
+    return box;
+}
+
+static struct choice without_far_cuts(const struct zone *zone, struct choice product, struct box box)
+{
+    for (size_t i = 0; i < zone->primitives; i++)
+        if ((product.complemented & bit(i)) && holds_no_point(box_cut_with(box, box_of_primitive(zone->primitive[i]))))
+            product.complemented &= ~bit(i);
+    return product;
+}
+
+static void prune(const struct zone *zone, struct plain_window window, struct choices *choices)
+{
+    size_t stayed = 0;
+    for (size_t k = 0; k < choices->count; k++) {
+        struct choice product = choices->at[k];
+        struct box box = product_box(zone, product, window);
+        if (!holds_no_point(box))
+            choices->at[stayed++] = without_far_cuts(zone, product, box);
+    }
+    choices->count = stayed;
+}
+
+static int is_among(struct choice product, const struct choice *products, size_t count)
+{
+    for (size_t k = 0; k < count; k++)
+        if (products[k].uncomplemented == product.uncomplemented && products[k].complemented == product.complemented)
+            return 1;
+    return 0;
+}
+
+static void drop_repeats(struct choices *products)
+{
+    size_t stayed = 0;
+    for (size_t k = 0; k < products->count; k++) {
+        struct choice product = products->at[k];
+        if (!is_among(product, products->at, stayed))
+            products->at[stayed++] = product;
+    }
+    products->count = stayed;
+}
+
+static struct plain_answer check_window(struct plain_window w)
+{
+    int32_t bound[6] = {w.xlo, w.xhi, w.ylo, w.yhi, w.zlo, w.zhi};
+    for (size_t b = 0; b < 6; b++) {
+        int is_hi = b % 2 == 1;
+        if (!plain_in_range(bound[b]) || (is_hi && bound[b] < bound[b - 1]))
+            return plain_refused(6, b);
+    }
+    return plain_done(0);
+}
+
+static void write_list(uint64_t *list, const struct zone *zone, struct plain_window w, struct choices products)
+{
+    int32_t bound[6] = {w.xlo, w.xhi, w.ylo, w.yhi, w.zlo, w.zhi};
+    list[0] = products.count;
+    for (size_t b = 0; b < 6; b++)
+        list[1 + b] = (uint64_t)((int64_t)bound[b] + 32768);
+    list[7] = zone->primitives;
+    for (size_t k = 0; k < products.count; k++) {
+        list[8 + 2 * k] = products.at[k].uncomplemented;
+        list[9 + 2 * k] = products.at[k].complemented;
+    }
+}
+
+struct plain_answer plain_make_list(const int32_t *table, size_t words, struct plain_window window,
+                                    uint64_t *list, size_t room)
+{
+    struct plain_answer check = plain_check(table, words);
+    if (plain_is_refused(check))
+        return check;
+    check = check_window(window);
+    if (plain_is_refused(check))
+        return check;
+    struct zone zone = plain_zone(table, words);
+    size_t root = zone.rows - 1;
+    uint64_t expansion_count = count_in(&zone, root);
+    if (expansion_count > MOST_CHOICES)
+        return plain_refused(7, expansion_count);
+
+    struct choices products = choices_in(&zone, root);
+    prune(&zone, window, &products);
+    drop_repeats(&products);
+
+    size_t needed = 8 + 2 * products.count;
+    if (needed <= room)
+        write_list(list, &zone, window, products);
+    free(products.at);
+    return needed <= room ? plain_done(needed) : plain_refused(8, needed);
+}

@@ -1,0 +1,42 @@
+/* What the parts of the plain implementation share; nothing here is for callers. */
+#ifndef PLAIN_PARTS_H
+#define PLAIN_PARTS_H
+
+#include "plain.h"
+
+#define ROW_WORDS 12
+#define MOST_ROWS 127
+#define MOST_PRIMITIVES 64
+
+#define LOWEST (-32768)
+#define HIGHEST 32767
+
+enum { BOX, WEDGE, DRUM, UNION, INTER, DIFF };
+
+struct point {
+    int64_t x, y, z;
+};
+
+/* A sound table taken apart: the 12 words of each row, and those of each primitive by its number. */
+struct zone {
+    size_t rows, primitives;
+    const int32_t *row[MOST_ROWS];
+    const int32_t *primitive[MOST_PRIMITIVES];
+};
+
+/* plain_table.c */
+struct plain_answer plain_done(uint64_t written);
+struct plain_answer plain_inside(int inside);
+struct plain_answer plain_found(uint64_t position, uint64_t inside_samples);
+struct plain_answer plain_refused(uint64_t number, uint64_t value);
+int plain_is_refused(struct plain_answer answer);
+int plain_in_range(int64_t value);
+size_t plain_fields(int32_t kind);
+struct zone plain_zone(const int32_t *table, size_t words);
+
+/* plain_tree.c */
+int plain_in_primitive(const int32_t *row, struct point point);
+struct plain_answer plain_check_frame(size_t samples, int32_t first, int32_t frame);
+struct point plain_sample(const int16_t *codes, size_t position, int32_t first, int32_t frame);
+
+#endif

@@ -1,0 +1,102 @@
+/* Answers from the tree: a point, and the search of a frame. */
+#include "plain_parts.h"
+
+static int64_t square(int64_t value)
+{
+    return value * value;
+}
+
+static int in_box(const int32_t *row, struct point p)
+{
+    return row[1] <= p.x && p.x <= row[2] && row[3] <= p.y && p.y <= row[4] && row[5] <= p.z && p.z <= row[6];
+}
+
+/* Each product of a slope and a coordinate is at most 2^30. */
+static int in_wedge(const int32_t *row, struct point p)
+{
+    int64_t a = row[7], b = row[8], c = row[9], d = row[10];
+    return in_box(row, p) && a * p.x + b * p.y + c * p.z <= d;
+}
+
+/* A radius is at most 2^12 and a coordinate less than 2^16 from the centre: the sum is under 2^57. */
+static int in_drum(const int32_t *row, struct point p)
+{
+    int64_t cx = row[1], cy = row[2], rx = row[3], ry = row[4];
+    return row[5] <= p.z && p.z <= row[6]
+        && square(ry) * square(p.x - cx) + square(rx) * square(p.y - cy) <= square(rx) * square(ry);
+}
+
+int plain_in_primitive(const int32_t *row, struct point point)
+{
+    switch (row[0]) {
+    case BOX: return in_box(row, point);
+    case WEDGE: return in_wedge(row, point);
+    default: return in_drum(row, point);
+    }
+}
+
+static int in_tree(const struct zone *zone, size_t number, struct point point)
+{
+    const int32_t *row = zone->row[number];
+    switch (row[0]) {
+    case UNION: return in_tree(zone, row[1], point) || in_tree(zone, row[2], point);
+    case INTER: return in_tree(zone, row[1], point) && in_tree(zone, row[2], point);
+    case DIFF: return in_tree(zone, row[1], point) && !in_tree(zone, row[2], point);
+    default: return plain_in_primitive(row, point);
+    }
+}
+
+struct plain_answer plain_tree_point(const int32_t *table, size_t words, int32_t x, int32_t y, int32_t z)
+{
+    struct plain_answer check = plain_check(table, words);
+    if (plain_is_refused(check))
+        return check;
+    if (!plain_in_range(x))
+        return plain_refused(10, 0);
+    if (!plain_in_range(y))
+        return plain_refused(10, 1);
+    if (!plain_in_range(z))
+        return plain_refused(10, 2);
+    struct zone zone = plain_zone(table, words);
+    struct point point = {x, y, z};
+    return plain_inside(in_tree(&zone, zone.rows - 1, point));
+}
+
+struct plain_answer plain_check_frame(size_t samples, int32_t first, int32_t frame)
+{
+    if (samples == 0 || samples > 65536)
+        return plain_refused(12, 0);
+    int64_t last = (int64_t)first + (int64_t)samples - 1;
+    if (!plain_in_range(first) || !plain_in_range(last))
+        return plain_refused(12, 1);
+    if (!plain_in_range(frame))
+        return plain_refused(12, 2);
+    return plain_done(0);
+}
+
+struct point plain_sample(const int16_t *codes, size_t position, int32_t first, int32_t frame)
+{
+    struct point point = {(int64_t)first + (int64_t)position, codes[position], frame};
+    return point;
+}
+
+struct plain_answer plain_tree_search(const int32_t *table, size_t words,
+                                      const int16_t *codes, size_t samples, int32_t first, int32_t frame)
+{
+    struct plain_answer check = plain_check(table, words);
+    if (plain_is_refused(check))
+        return check;
+    check = plain_check_frame(samples, first, frame);
+    if (plain_is_refused(check))
+        return check;
+    struct zone zone = plain_zone(table, words);
+    uint64_t first_inside = 0, inside_samples = 0;
+    for (size_t k = 0; k < samples; k++) {
+        if (in_tree(&zone, zone.rows - 1, plain_sample(codes, k, first, frame))) {
+            if (inside_samples == 0)
+                first_inside = k;
+            inside_samples++;
+        }
+    }
+    return plain_found(first_inside, inside_samples);
+}

@@ -1,0 +1,80 @@
+/* How often each answer was seen: a test that reaches nothing shows. */
+#include <inttypes.h>
+#include <stdio.h>
+
+#include "differ.h"
+
+#define REFUSALS 13
+
+const char *const call_name[CALLS] = {
+    "check", "tree_point", "tree_search", "make_list", "list_point", "list_search", "read_text", "write_text",
+};
+
+/* The refusals that the rules give each call, ended by 0. */
+static const int refusals_of[CALLS][REFUSALS] = {
+    {1, 2, 3, 4, 5},        {1, 2, 3, 4, 5, 10},        {1, 2, 3, 4, 5, 12}, {1, 2, 3, 4, 5, 6, 7, 8},
+    {1, 2, 3, 4, 5, 9, 11, 10}, {1, 2, 3, 4, 5, 9, 11, 12, 10}, {13, 3, 4, 5, 8},    {1, 2, 3, 4, 5, 8},
+};
+
+/* Answers of kind 0 and 1 by call, and refusals by call and number. */
+static uint64_t answered[CALLS][2], refused[CALLS][REFUSALS + 1];
+
+void tally(enum call call, struct plain_answer answer)
+{
+    if (answer.kind < 2)
+        answered[call][answer.kind]++;
+    else
+        refused[call][answer.value]++;
+}
+
+static uint64_t calls_asked(void)
+{
+    uint64_t asked = 0;
+    for (int call = 0; call < CALLS; call++) {
+        asked += answered[call][0] + answered[call][1];
+        for (int number = 1; number <= REFUSALS; number++)
+            asked += refused[call][number];
+    }
+    return asked;
+}
+
+void print_tally(uint64_t seed, uint64_t cases)
+{
+    printf("differ: seed %" PRIu64 ", %" PRIu64 " cases, %" PRIu64 " calls agree;", seed, cases, calls_asked());
+    printf(" sound %" PRIu64, answered[CHECK][0]);
+    printf(", outside %" PRIu64, answered[TREE_POINT][0] + answered[LIST_POINT][0]);
+    printf(", inside %" PRIu64, answered[TREE_POINT][1] + answered[LIST_POINT][1]);
+    printf(", clear %" PRIu64, answered[TREE_SEARCH][0] + answered[LIST_SEARCH][0]);
+    printf(", hit %" PRIu64, answered[TREE_SEARCH][1] + answered[LIST_SEARCH][1]);
+    printf(", written %" PRIu64 "; refused", answered[MAKE_LIST][0] + answered[READ_TEXT][0] + answered[WRITE_TEXT][0]);
+    for (int number = 1; number <= REFUSALS; number++) {
+        uint64_t seen = 0;
+        for (int call = 0; call < CALLS; call++)
+            seen += refused[call][number];
+        printf("%s %d: %" PRIu64, number == 1 ? "" : ",", number, seen);
+    }
+    printf("\n");
+}
+
+static int has_kind_1(int call)
+{
+    return call == TREE_POINT || call == TREE_SEARCH || call == LIST_POINT || call == LIST_SEARCH;
+}
+
+/* Was every answer and refusal that the rules give a call seen of that call? Names those that were not. */
+int is_all_seen(void)
+{
+    int all = 1;
+    for (int call = 0; call < CALLS; call++) {
+        if (answered[call][0] == 0 || (has_kind_1(call) && answered[call][1] == 0)) {
+            printf("differ: an answer of %s was never seen\n", call_name[call]);
+            all = 0;
+        }
+        for (const int *number = refusals_of[call]; *number != 0; number++)
+            if (refused[call][*number] == 0) {
+                printf("differ: refusal %d of %s was never seen\n", *number, call_name[call]);
+                all = 0;
+            }
+    }
+    return all;
+}

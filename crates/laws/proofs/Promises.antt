@@ -1,0 +1,127 @@
+-- The three promises hold: each sentence cites the theorem that keeps it. Assumes nothing.
+use Prim.Native.Nat.{ℕ}
+use native.Mathlib.Omega.{arith}
+use mathlib.Core.Bool.{true}
+use mathlib.Core.List.{List}
+use mathlib.Core.Option.{Option, none}
+use mathlib.Core.Path.{_≡_, ap, subst, _∙_}
+use lib.IntN.{ℤ}
+use lib.ListN.{length}
+use Rattle.rules.specs.declared.Located.{Located}
+use Rattle.rules.specs.declared.Point.{Point}
+use Rattle.rules.specs.declared.Refusal.{Refusal}
+use Rattle.rules.specs.declared.Window.{Window}
+use Rattle.rules.specs.declared.Written.{Written}
+use Rattle.rules.specs.declared.Written.the-variants.{Wrote}
+use Rattle.rules.specs.Boxes.{Box, holds, everywhere}
+use Rattle.rules.specs.Frame.{firstInside, insideCount}
+use Rattle.rules.specs.Inside.{inside}
+use Rattle.rules.specs.ListCalls.{zoneList, makeRefusal, ListMade, listPointRefusal, listSearchRefusal}
+use Rattle.rules.specs.ListInside.{insideList}
+use Rattle.rules.specs.Products.{products}
+use Rattle.rules.specs.Table.{primitives}
+use Rattle.rules.specs.TextCalls.{tableRead, readRefusal, tableText, writeRefusal}
+use Rattle.rules.specs.Told.{fine, wrote, tell}
+use Rattle.rules.specs.Tree.{treeOf}
+use Rattle.rules.specs.TreeCalls.{treePointRefusal, TreeLocated, treeSearchRefusal}
+use Rattle.rules.specs.Verdict.{tableRefusal}
+use Rattle.rules.proofs.Settled.{tree-located-settled, tree-searched-settled, list-located-settled, list-searched-settled, list-made-settled}
+use Rattle.rules.proofs.Settled.{text-read-settled, text-written-settled, list-made-keeps, text-read-keeps, text-written-keeps}
+use Rattle.rules.proofs.Told.{written-once}
+use Rattle.laws.specs.Promises.{Promise1, InTree, InList, BySet, Made, Faithful, Promise2, needed, Listable, Promise3}
+use Rattle.laws.proofs.Answering.{sampleHeld, window-in-range, made-passes, list-locates, list-answers-tree, list-refuses-outside, searches-agree}
+use Rattle.laws.proofs.Copies.{list-needs, listable-fine, not-refused, made-listable, made-fits, made-length, made-words, made-here}
+use Rattle.laws.proofs.Outcomes.{check-answers, point-answers, search-answers, writes, read-answer}
+use Rattle.laws.proofs.Promise.{list-right, list-rest, list-room}
+use Rattle.laws.proofs.Searches.{search-finds}
+use Rattle.laws.proofs.Sets.{says-itself, tests-are-sets, tree-answers-sets}
+use Rattle.laws.proofs.Strangers.{stranger-refused}
+use Rattle.laws.proofs.Texts.{table-text-table, text-table-text}
+
+-- ---- Promise 1: each call by its settled-lemma; a call that writes by its keeps-lemma too
+
+pub promise-1 : Promise1
+promise-1 = record {
+  check-table = check-answers;
+  tree-point = λ t p. point-answers (treePointRefusal t p) (inside (treeOf t) p) (λ r m. m .answer) (λ r s. tree-located-settled);
+  tree-search = λ t samples place.
+      let isInside = inside (treeOf t) in
+      search-answers (treeSearchRefusal t samples place) (firstInside isInside samples place) (insideCount isInside samples place)
+      (λ r m. m .answer) (λ r s. tree-searched-settled);
+  make-list = λ t w before.
+      writes (makeRefusal t w (length before)) (length (zoneList t w))
+      (λ after r m. m .answer) (λ a b r s. list-made-settled) (λ after q. list-made-keeps);
+  list-point = λ t list p.
+      point-answers (listPointRefusal t list p) (insideList (primitives t) list p) (λ r m. m .answer) (λ r s. list-located-settled);
+  list-search = λ t list samples place.
+      let isInside = insideList (primitives t) list in
+      search-answers (listSearchRefusal t list samples place) (firstInside isInside samples place) (insideCount isInside samples place)
+      (λ r m. m .answer) (λ r s. list-searched-settled);
+  read-text = λ text form before.
+      writes (readRefusal form (length before)) (length (tableRead form))
+      (λ after r. read-answer form) (λ a b r s. text-read-settled) (λ after q. text-read-keeps);
+  write-text = λ t before.
+      writes (writeRefusal t (length before)) (length (tableText t))
+      (λ after r m. m .answer) (λ a b r s. text-written-settled) (λ after q. text-written-keeps);
+}
+
+-- ---- Promise 2
+
+by-set : (t : List ℤ) → tableRefusal t ≡ none → (p : Point) → holds everywhere p ≡ true → {r : Located} → TreeLocated t p r → BySet (InTree t p) r
+by-set t kept p ranged met = let s = tree-answers-sets t kept p ranged met in record { in-zone = s .0; out-of-zone = s .1 }
+
+faithful : {t : List ℤ} {w : Window} {list : List ℕ} → Made t w list → Faithful t w list
+faithful {t} {w} {list} m = record {
+  answers = λ p held by-list.
+      by-set t (listable .sound) p (window-in-range w (listable .window) p held) (list-locates t w list list n here p held by-list);
+  as-tree = list-answers-tree t w list list n here;
+  refuses = list-refuses-outside t w list list n here;
+  frame-as-tree = searches-agree t w list list n here;
+  refuses-frame = λ samples place frame k l out earlier by-list.
+      let passes = made-passes t w list list n here in
+      stranger-refused t list samples place by-list (listable .sound) (passes .0) (passes .1) frame k l
+      (ap (λ (b : Box). sampleHeld b samples place k) (passes .2) ∙ out)
+      (λ j h. ap (λ (b : Box). sampleHeld b samples place j) (passes .2) ∙ earlier j h);
+}
+  where
+    n : ℕ
+    n = m .words
+
+    here : ListMade t w list list (Wrote n)
+    here = made-here m
+
+    listable : Listable t w
+    listable = made-listable here
+
+pub promise-2 : Promise2
+promise-2 = record {
+  tree-answers = by-set;
+  list-answers = λ t w list. faithful;
+  tree-searches = λ t samples place.
+      search-finds (inside (treeOf t)) (InTree t) (tests-are-sets (treeOf t)) samples place (treeSearchRefusal t samples place) (λ r m. m .answer);
+  list-searches = λ t list samples place.
+      let isInside = insideList (primitives t) list in
+      search-finds isInside (InList t list) (λ p. says-itself (isInside p)) samples place (listSearchRefusal t list samples place) (λ r m. m .answer);
+  table-text-table = table-text-table;
+  text-table-text = text-table-text;
+}
+
+-- ---- Promise 3
+
+pub promise-3 : {t : List ℤ} {w : Window} {before after : List ℕ} {r : Written} → ListMade t w before after r → Promise3 t w before after r
+unfolding zoneList products
+promise-3 {t} {w} {before} {after} {r} made = record {
+  writes = λ l fits.
+      let told = ap (λ (x : Option Refusal). tell x (wrote (length (zoneList t w)))) (listable-fine t w l (length before) fits) in
+      written-once r (Wrote (needed t w)) (made .answer ∙ told ∙ ap (λ (n : ℕ). fine (wrote n)) (list-needs t w));
+  only-then = λ e. (made-listable (wrote-it e), made-fits (wrote-it e));
+  exactly = λ e. made-words (wrote-it e);
+  each-once = λ e. list-right t w before after r made (not-refused (wrote-it e));
+  rest-stays = λ e i l. list-rest t w before after r made (not-refused (wrote-it e)) i (omega (arith, made-length (wrote-it e)));
+  no-room = λ l short.
+      let refusal = list-room t w before after r made (l .sound) (l .window) (l .few) short in
+      (written-once r _ (refusal .0), refusal .1);
+}
+  where
+    wrote-it : {n : ℕ} → r ≡ Wrote n → ListMade t w before after (Wrote n)
+    wrote-it e = subst (ListMade t w before after) e made

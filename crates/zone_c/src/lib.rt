@@ -1,0 +1,154 @@
+// The public calls for C. Each makes one call of zone and tells its outcome in three numbers; a lent buffer is left as that call leaves it.
+use rules::Checked;
+use rules::Located;
+use rules::Place;
+use rules::Point;
+use rules::Searched;
+use rules::Window;
+use rules::Written;
+ghost use mathlib.Core.Path.{_≡_};
+ghost use Rattle.rules.specs.Told.{toldChecked, toldLocated, toldSearched, toldWritten};
+ghost use Rattle.rules.specs.TreeCalls.{TableChecked, TreeLocated, TreeSearched};
+ghost use Rattle.rules.specs.ListCalls.{ListMade, ListLocated, ListSearched};
+ghost use Rattle.rules.specs.TextCalls.{TextRead, TextWritten};
+ghost use Rattle.zone_c.specs.Answers.{answerOf, Answered};
+ghost use Rattle.zone_c.specs.Lent.{point, place};
+
+// Kind 0: sound, outside, clear, or written (value: how many words or bytes). Kind 1: inside, or hit (value: the first position, count: the
+// number of inside samples). Kind 2: refused (value: the number of the refusal, count: its value). What is not named is 0.
+#[repr(C)]
+pub struct Answer {
+    pub kind: u64,
+    pub value: u64,
+    pub count: u64,
+}
+
+// The answer with these numbers.
+fn numbers(kind: u64, value: u64, count: u64) -> Answer
+    ensures { λ r. ⌜ r ≡ record { kind = kind; value = value; count = count } ⌝ }
+{
+    Answer { kind, value, count }
+}
+
+// The answer of the check of a table.
+fn of_checked(checked: Checked) -> Answer
+    ensures { λ r. ⌜ r ≡ answerOf (toldChecked checked) ⌝ }
+{
+    match checked {
+        Checked::Sound => numbers(0, 0, 0),
+        Checked::Refused(refusal) => numbers(2, refusal.number, refusal.value),
+    }
+}
+
+// The answer of a question about one point.
+fn of_located(located: Located) -> Answer
+    ensures { λ r. ⌜ r ≡ answerOf (toldLocated located) ⌝ }
+{
+    match located {
+        Located::Outside => numbers(0, 0, 0),
+        Located::Inside => numbers(1, 0, 0),
+        Located::Refused(refusal) => numbers(2, refusal.number, refusal.value),
+    }
+}
+
+// The answer of the search of a frame.
+fn of_searched(searched: Searched) -> Answer
+    ensures { λ r. ⌜ r ≡ answerOf (toldSearched searched) ⌝ }
+{
+    match searched {
+        Searched::Clear => numbers(0, 0, 0),
+        Searched::Hit { first, count } => numbers(1, first as u64, count as u64),
+        Searched::Refused(refusal) => numbers(2, refusal.number, refusal.value),
+    }
+}
+
+// The answer of a call that writes.
+fn of_written(written: Written) -> Answer
+    ensures { λ r. ⌜ r ≡ answerOf (toldWritten written) ⌝ }
+{
+    match written {
+        Written::Wrote(n) => numbers(0, n as u64, 0),
+        Written::Refused(refusal) => numbers(2, refusal.number, refusal.value),
+    }
+}
+
+// zone::check_table: whether a table is sound.
+#[no_mangle]
+pub extern "C" fn lampholly_check(table: &[i32]) -> Answer
+    ensures { λ r. ⌜ Answered toldChecked (TableChecked (now (table .entry))) r ⌝ }
+{
+    of_checked(zone::check_table(table))
+}
+
+// zone::tree_point: whether a point is inside the zone, by its tree.
+#[no_mangle]
+pub extern "C" fn lampholly_tree_point(table: &[i32], x: i32, y: i32, z: i32) -> Answer
+    ensures { λ r. ⌜ Answered toldLocated (TreeLocated (now (table .entry)) (point x y z)) r ⌝ }
+{
+    of_located(zone::tree_point(table, Point { x, y, z }))
+}
+
+// zone::tree_search: the first inside sample of a frame and how many there are, by the tree.
+#[no_mangle]
+pub extern "C" fn lampholly_tree_search(
+    table: &[i32],
+    samples: &[i16],
+    first: i32,
+    frame: i32,
+) -> Answer
+    ensures { λ r. ⌜ Answered toldSearched (TreeSearched (now (table .entry)) (now (samples .entry)) (place first frame)) r ⌝ }
+{
+    of_searched(zone::tree_search(table, samples, Place { first, frame }))
+}
+
+// zone::make_list: writes the zone's list for a window.
+#[no_mangle]
+pub extern "C" fn lampholly_make_list(table: &[i32], window: Window, list: &mut [u64]) -> Answer
+    ensures { λ r. ⌜ Answered toldWritten (ListMade (now (table .entry)) window (now (list .entry)) (now (list .exit))) r ⌝ }
+{
+    of_written(zone::make_list(table, window, list))
+}
+
+// zone::list_point: whether a point is inside a list.
+#[no_mangle]
+pub extern "C" fn lampholly_list_point(
+    table: &[i32],
+    list: &[u64],
+    x: i32,
+    y: i32,
+    z: i32,
+) -> Answer
+    ensures { λ r. ⌜ Answered toldLocated (ListLocated (now (table .entry)) (now (list .entry)) (point x y z)) r ⌝ }
+{
+    of_located(zone::list_point(table, list, Point { x, y, z }))
+}
+
+// zone::list_search: the first inside sample of a frame and how many there are, by a list.
+#[no_mangle]
+pub extern "C" fn lampholly_list_search(
+    table: &[i32],
+    list: &[u64],
+    samples: &[i16],
+    first: i32,
+    frame: i32,
+) -> Answer
+    ensures { λ r. ⌜ Answered toldSearched (ListSearched (now (table .entry)) (now (list .entry)) (now (samples .entry)) (place first frame)) r ⌝ }
+{
+    of_searched(zone::list_search(table, list, samples, Place { first, frame }))
+}
+
+// zone::read_text: reads zone text into a table.
+#[no_mangle]
+pub extern "C" fn lampholly_read_text(text: &[u8], table: &mut [i32]) -> Answer
+    ensures { λ r. ⌜ Answered toldWritten (TextRead (now (text .entry)) (now (table .entry)) (now (table .exit))) r ⌝ }
+{
+    of_written(zone::read_text(text, table))
+}
+
+// zone::write_text: writes the text of a table.
+#[no_mangle]
+pub extern "C" fn lampholly_write_text(table: &[i32], text: &mut [u8]) -> Answer
+    ensures { λ r. ⌜ Answered toldWritten (TextWritten (now (table .entry)) (now (text .entry)) (now (text .exit))) r ⌝ }
+{
+    of_written(zone::write_text(table, text))
+}

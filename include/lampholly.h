@@ -1,0 +1,123 @@
+/* Lampholly: search zones over sample column, ADC code and frame number, for C99 and C++11.
+
+   `rt staticlib zone_c` makes the archive to link, target/staticlib/libzone_c.a. It is for x86-64 only.
+   docs/RULES.md has the rules of zones, tables, lists and text; what follows is how to call.
+
+   What is lent
+   - A table is a run of 12 words a row: `words` counts words, not rows and not bytes. The same holds for `list_words`,
+     `samples` and `bytes`, and `room` counts the words or bytes that fit into the buffer to be written.
+   - A buffer of length 0 may be NULL.
+   - The buffers of one call must not overlap.
+   - Nothing outside the lent buffers is read or written, nothing is allocated and nothing is kept between calls.
+   - A refusal leaves every buffer as it was. A call that writes leaves what lies beyond its result as it was.
+   - Every input has an answer; no call has a precondition besides those above.
+
+   The table's refusals, in their order; each call that takes a table gives them first
+      1  words not a multiple of 12, no row, or over 127 rows      value: words
+      then row by row
+      2  unknown kind                                              value: row, counted from 0
+      3  a field out of its rule, or a spare word not 0            value: row
+      4  a child negative or not an earlier row                    value: row
+      then
+      5  a row but the last is child never or more than once       value: lowest such row */
+#ifndef LAMPHOLLY_H
+#define LAMPHOLLY_H
+
+#include <stddef.h>
+#include <stdint.h>
+
+#ifdef __cplusplus
+extern "C" {
+#endif
+
+/* The three kinds of answer. */
+#define LAMPHOLLY_DONE 0    /* clear, outside, sound, or written: value is the words or bytes written, else 0 */
+#define LAMPHOLLY_INSIDE 1  /* inside: 0, 0; or hit: value is the first inside position, count the inside samples */
+#define LAMPHOLLY_REFUSED 2 /* refused: value is the refusal's number, count its value */
+
+/* What always suffices: a table of 127 rows, a list of 65,536 products, the longest text that can be read. */
+#define LAMPHOLLY_TABLE_WORDS 1524
+#define LAMPHOLLY_LIST_WORDS 131080
+#define LAMPHOLLY_TEXT_BYTES 16384
+
+struct lampholly_answer {
+    uint64_t kind, value, count;
+};
+
+/* Both bounds of an axis belong to the window. x is the column, y the code, z the frame number. */
+struct lampholly_window {
+    int32_t xlo, xhi, ylo, yhi, zlo, zhi;
+};
+
+/* Checks a table.
+   Answers: sound (0, 0, 0).
+   Refusals: the table's. */
+struct lampholly_answer lampholly_check(const int32_t *table, size_t words);
+
+/* Is the point in the zone?
+   Answers: outside (0, 0, 0) or inside (1, 0, 0).
+   Refusals: the table's; then
+     10  the point is out of -32768..32767      value: first bad axis, 0..2 */
+struct lampholly_answer lampholly_tree_point(const int32_t *table, size_t words, int32_t x, int32_t y, int32_t z);
+
+/* Searches a frame: sample k, counted from 0, is the point (first + k, codes[k], frame).
+   Answers: clear (0, 0, 0), or hit (1, position of the first inside sample, number of inside samples).
+   Refusals: the table's; then
+     12  no sample or over 65,536               value: 0
+         a column out of -32768..32767          value: 1
+         the frame number out of that range     value: 2 */
+struct lampholly_answer lampholly_tree_search(const int32_t *table, size_t words,
+                                              const int16_t *codes, size_t samples, int32_t first, int32_t frame);
+
+/* Normalises the zone to its list of products for the window, and writes that into list[0 .. room - 1].
+   Word 0: number of products. Words 1 to 6: the window's bounds, each plus 32768. Word 7: number of primitives.
+   From word 8, two words a product: a bit for each uncomplemented primitive, then a bit for each complemented one.
+   Answers: written (0, words written, 0). A zone that misses the window gives 0 products: 8 words.
+   Refusals: the table's; then
+      6  a bound out of -32768..32767, or hi below lo (at hi)    value: first bad bound, 0..5, in the order of the struct
+      7  the expansion count, before pruning, is over 65,536     value: that count
+      8  no room                                                 value: words needed */
+struct lampholly_answer lampholly_make_list(const int32_t *table, size_t words, struct lampholly_window window,
+                                            uint64_t *list, size_t room);
+
+/* Is the point in the list? It is when, for some product, it is in every uncomplemented primitive and in no complemented
+   one. A list that lampholly_make_list made from this table agrees with the tree at every point of its window.
+   A list may be lent longer than its products need; the rest is not read.
+   Answers: outside (0, 0, 0) or inside (1, 0, 0).
+   Refusals: the table's; then
+      9  the list is malformed                   value: word of the first fault; if under 8 words are lent, their number
+     11  list and table differ in the number of primitives      value: the table's
+     10  the point is out of the list's window   value: first bad axis, 0..2 */
+struct lampholly_answer lampholly_list_point(const int32_t *table, size_t words,
+                                             const uint64_t *list, size_t list_words, int32_t x, int32_t y, int32_t z);
+
+/* Searches a frame by the list; samples as in lampholly_tree_search, inside as in lampholly_list_point.
+   Answers: clear (0, 0, 0), or hit (1, position of the first inside sample, number of inside samples).
+   Refusals: the table's; then
+      9, 11  as in lampholly_list_point
+     12  as in lampholly_tree_search
+     10  a sample is out of the list's window    value: position of the first such sample */
+struct lampholly_answer lampholly_list_search(const int32_t *table, size_t words,
+                                              const uint64_t *list, size_t list_words,
+                                              const int16_t *codes, size_t samples, int32_t first, int32_t frame);
+
+/* Reads zone text into table[0 .. room - 1].
+   Answers: written (0, words written, 0).
+   Refusals:
+     13  over 16,384 bytes                       value: 0
+         the text breaks its form                value: first faulty line, counted from 1
+     then, of the table that the text says, 3, 4 and 5 of the table's refusals (a text of good form earns no 1 and no 2); then
+      8  no room                                 value: words needed */
+struct lampholly_answer lampholly_read_text(const uint8_t *text, size_t bytes, int32_t *table, size_t room);
+
+/* Writes the table as zone text into text[0 .. room - 1]; no zero byte ends it.
+   Answers: written (0, bytes written, 0). Reading those bytes gives the same table.
+   Refusals: the table's; then
+      8  no room                                 value: bytes needed */
+struct lampholly_answer lampholly_write_text(const int32_t *table, size_t words, uint8_t *text, size_t room);
+
+#ifdef __cplusplus
+}
+#endif
+
+#endif
