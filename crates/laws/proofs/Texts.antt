@@ -34,6 +34,7 @@ use Rattle.rules.specs.Verdict.{lengthRefusal, rowRefusalBy, rowRefusal, rowsRe
 use Rattle.rules.proofs.Lines.{noRow}
 use Rattle.rules.proofs.Settled.{form-once}
 use Rattle.rules.proofs.Told.{written-once, wrote-none}
+use Rattle.laws.specs.Sound.{Sound}
 use Rattle.laws.proofs.Apart.{next-row}
 use Rattle.laws.proofs.Numbering.{number-kind, kind-number}
 use Rattle.laws.proofs.Soundness.{unless-kept, table-sound}
@@ -272,3 +273,19 @@ text-table-text {text} {room} {table} {m} read {before} {after} {r} written fits
     let nothing = write-fine t (length before) (ap tableRefusal (done .1) ∙ kept) (rw same fits) in
     subst (λ (bytes : List ℕ). (r ≡ Wrote (length bytes)) × (take (length bytes) after ≡ bytes)) same
     (none-wrote (writeRefusal t (length before)) (tableText t) before (written .answer) (written .buffer) nothing)
+
+-- a text that was accepted: its table lies in the buffer, and is sound
+module _ {text : List ℕ} {room table : List ℤ} {m : ℕ} (read : TextRead text room table (Wrote m)) where
+  pub read-done : (readRefusal (read .form) (length room) ≡ none) × (take m table ≡ tableRead (read .form))
+  read-done = wrote-result (readRefusal (read .form) (length room)) (tableRead (read .form)) room (read .answer) (read .buffer)
+
+  pub read-fits : m ≤ length table
+  read-fits =
+      let t = tableRead (read .form) in
+      omega (arith, wrote-none (readRefusal (read .form) (length room)) (length t) m (read .answer) .1, length-take m table, ap length (read-done .1))
+
+  pub read-sound : Sound (take m table)
+  read-sound =
+      let t = tableRead (read .form) in
+      let later = first-kept (formRefusal (read .form)) _ (read-done .0) .1 in
+      subst Sound (sym (read-done .1)) (table-sound t (first-kept (tableRefusal t) _ later .0))

@@ -9,7 +9,7 @@ use mathlib.Core.Option.{Option, none, some}
 use mathlib.Core.Path.{_≡_, refl, sym, ap, _∙_}
 use borrow.Author.Tests.{le-leb}
 use lib.IntN.{ℤ}
-use lib.ListN.{length, take, length-take}
+use lib.ListN.{length, take}
 use Rattle.ground.specs.Lists.{orElse, firstOf}
 use Rattle.ground.proofs.Counting.{or-else-none, first-kept}
 use Rattle.rules.specs.declared.Refusal.{Refusal}
@@ -23,9 +23,9 @@ use Rattle.rules.specs.TextCalls.{tableRead, formRefusal, readRefusal, TextRead
 use Rattle.rules.specs.TextForm.{TextForm}
 use Rattle.rules.specs.Tree.{treeOf}
 use Rattle.rules.specs.Verdict.{tableRefusal}
-use Rattle.rules.proofs.Told.{wrote-none, refused-some}
+use Rattle.rules.proofs.Told.{refused-some}
 use Rattle.laws.proofs.Soundness.{table-sound}
-use Rattle.laws.proofs.Texts.{wrote-result}
+use Rattle.laws.proofs.Texts.{read-done}
 use Rattle.number.specs.Writing.{Put}
 use Rattle.number.proofs.Writing.{put-same, put-over}
 use Rattle.print.specs.Lines.{tableListing}
@@ -75,17 +75,8 @@ module _ {text : List ℕ} {room table : List ℤ} {m : ℕ} (read : TextRead te
   abbrev t : List ℤ
   t = tableRead (read .form)
 
-  abbrev rules : Option Refusal
-  rules = readRefusal (read .form) (length room)
-
-  done : (rules ≡ none) × (take m table ≡ t)
-  done = wrote-result rules t room (read .answer) (read .buffer)
-
   accepted : formRefusal (read .form) ≡ none
-  accepted = first-kept (formRefusal (read .form)) _ (done .0) .0
-
-  pub read-fits : m ≤ length table
-  read-fits = omega (arith, wrote-none rules (length t) m (read .answer) .1, length-take m table, ap length (done .1))
+  accepted = first-kept (formRefusal (read .form)) _ (read-done read .0) .0
 
   pub text-listed : {before after : List ℕ} {n : ℕ} → 171890 ≤ length before → Put before 0 (tableListing (take m table)) after n
       → ZoneListed text before after n × (n ≤ 171890)
@@ -93,4 +84,4 @@ module _ {text : List ℕ} {room table : List ℤ} {m : ℕ} (read : TextRead te
   text-listed fits p =
       let making = makeRefusal t fullRange listingRoom in
       let same = ap (λ (x : Option Refusal). orElse x (orElse making none)) accepted ∙ sym (or-else-none making) in
-      (listed-as (read .form) same (omega (arith, table-most t)) (put-same (ap tableListing (sym (done .1))) p), omega (arith, p .end, table-most (take m table)))
+      (listed-as (read .form) same (omega (arith, table-most t)) (put-same (ap tableListing (sym (read-done read .1))) p), omega (arith, p .end, table-most (take m table)))

@@ -22,7 +22,7 @@ pub struct Gathered {
 }
 
 // A primitive's box.
-fn box_of(s: Primitive) -> BoxShape
+pub fn box_of(s: Primitive) -> BoxShape
     requires { ⌜ solidRight s ≡ true ⌝ }
     ensures { λ r. ⌜ bounds r ≡ boxOf s ⌝ }
 {

@@ -6,7 +6,8 @@ use lib.ListN.{length, replicate, length-replicate}
 use lib.Seq.{length-take-le}
 use Rattle.rules.specs.declared.Written.{Written}
 use Rattle.rules.specs.TextCalls.{TextRead}
-use Rattle.print.proofs.Read.{text-refused, read-fits, text-listed}
+use Rattle.laws.proofs.Texts.{read-fits}
+use Rattle.print.proofs.Read.{text-refused, text-listed}
 use Rattle.print.proofs.list_zone.Statement.{statement}
 use Rattle.print.proofs.list_zone.Tie as tie
 

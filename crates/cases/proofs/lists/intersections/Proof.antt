@@ -1,8 +1,8 @@
 use Prim.Native.Nat.{_≤_, _<_, _-_}
 use native.Mathlib.Omega.{arith}
 use borrow.Author.Needs.{needs}
-use Rattle.cases.proofs.intersections.Statement.{statement}
-use Rattle.cases.proofs.intersections.Tie as tie
+use Rattle.cases.proofs.lists.intersections.Statement.{statement}
+use Rattle.cases.proofs.lists.intersections.Tie as tie
 
 abbrev Inv-loop : tie.InvT-loop
 Inv-loop t₀ row eighth left₀ k₀ t left k = (k ≤ 6) × (left < 65)

@@ -1,8 +1,8 @@
 use Prim.Native.Nat.{_≤_, _-_}
 use native.Mathlib.Omega.{arith}
 use borrow.Author.Needs.{needs}
-use Rattle.cases.proofs.eight_unions.Statement.{statement}
-use Rattle.cases.proofs.eight_unions.Tie as tie
+use Rattle.cases.proofs.lists.eight_unions.Statement.{statement}
+use Rattle.cases.proofs.lists.eight_unions.Tie as tie
 
 abbrev Inv-loop : tie.InvT-loop
 Inv-loop t₀ step k₀ t k = k ≤ 8
