@@ -30,7 +30,7 @@ not-below a b = go (leb b a) refl
     go true h = ap not (le-ltb a b (leb-true b a h))
     go false h = ap not (lt-ltb a b (leb-false b a h))
 
-not-less : (a b : ℤ) → not (ltZ a b) ≡ leZ b a
+pub not-less : (a b : ℤ) → not (ltZ a b) ≡ leZ b a
 not-less (pos a) (pos b) = not-below a b
 not-less (pos a) (negsuc b) = refl
 not-less (negsuc a) (pos b) = refl

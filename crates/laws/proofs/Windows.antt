@@ -3,12 +3,12 @@ use Prim.Native.Nat.{ℕ}
 use mathlib.Core.Bool.{true, false, _&&_, _||_}
 use mathlib.Core.List.{List, [], _∷_}
 use mathlib.Core.Option.{Option, none}
-use mathlib.Core.Path.{_≡_, refl, ap₂}
-use borrow.Author.Tests.{leb-true, le-ltb}
-use lib.IntN.{ℤ, pos, negsuc}
+use mathlib.Core.Path.{_≡_, ap₂, _∙_}
+use borrow.Author.Tests.{not-true}
+use lib.IntN.{ℤ}
 use lib.Signed.{leZ, ltZ}
 use Rattle.ground.specs.Lists.{firstOf}
-use Rattle.ground.proofs.Branches.{false-true, and-left, and-right}
+use Rattle.ground.proofs.Branches.{and-left, and-right}
 use Rattle.ground.proofs.Counting.{first-kept}
 use Rattle.rules.specs.declared.Refusal.{Refusal}
 use Rattle.rules.specs.declared.Window.{Window}
@@ -17,6 +17,7 @@ use Rattle.rules.specs.Boxes.{windowBox, empty}
 use Rattle.rules.specs.Refusals.{refuseUnless}
 use Rattle.rules.specs.ListCalls.{windowRefusal}
 use Rattle.laws.proofs.Soundness.{unless-kept}
+use Rattle.laws.proofs.Spaces.{not-less}
 
 -- the two bounds of an axis
 pub record Bounds (s : Span) (lo hi : ℤ) : Type 0 where
@@ -52,10 +53,7 @@ window-right w e =
     record { x = x .0; y = y .0; z = z .0 }
 
 not-past : (a b : ℤ) → leZ a b ≡ true → ltZ b a ≡ false
-not-past (pos a) (pos b) h = le-ltb b a (leb-true a b h)
-not-past (pos a) (negsuc b) h = false-true h
-not-past (negsuc a) (pos b) h = refl
-not-past (negsuc a) (negsuc b) h = le-ltb a b (leb-true b a h)
+not-past a b h = not-true (ltZ b a) (not-less b a ∙ h)
 
 pub window-filled : (w : Window) → windowRefusal w ≡ none → empty (windowBox w) ≡ false
 window-filled w e =

@@ -17,7 +17,7 @@ use Rattle.rules.specs.Table.{primitives}
 use Rattle.rules.specs.Tree.{treeOf}
 use Rattle.laws.specs.Listed.{nothing}
 
-words-length : (ps : List Product) → length (flatMap wordsOf ps) ≡ 2 * length ps
+pub words-length : (ps : List Product) → length (flatMap wordsOf ps) ≡ 2 * length ps
 unfolding flatMap
 words-length [] = refl
 words-length (p ∷ ps) = omega (arith, words-length ps)

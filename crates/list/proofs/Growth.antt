@@ -4,7 +4,7 @@ use native.Mathlib.Numerals.{add-one}
 use native.Mathlib.Omega.{arith}
 use mathlib.Core.Bool.{Bool, true, false, _&&_}
 use mathlib.Core.List.{List, [], _∷_, _++_, flatMap}
-use mathlib.Core.Path.{_≡_, refl, sym, ap, _∙_}
+use mathlib.Core.Path.{_≡_, sym, ap, _∙_}
 use borrow.Author.Tests.{eq-eqb, ne-eqb}
 use lib.Bits.{bitAnd}
 use lib.IntN.{ℤ}
@@ -20,6 +20,7 @@ use Rattle.laws.specs.Listing.{pruned, listing}
 use Rattle.laws.proofs.Ways.{ways-count}
 use Rattle.laws.proofs.Listing.{listing-next, listing-all, listing-none, listing-length, listing-grows}
 use Rattle.choice.specs.Steps.{Remembered}
+use Rattle.laws.proofs.Words.{words-length}
 use Rattle.list.specs.Growth.{reachBy, aliveBy, listed, Ready}
 
 module _ (meets : List ℕ) (primitives seen : ℕ) (p : Plan) where
@@ -73,16 +74,11 @@ module _ (meets : List ℕ) (primitives seen : ℕ) (p : Plan) where
 
 -- ---- words of products
 
-pub flat-length : (ps : List Product) → length (flatMap wordsOf ps) ≡ 2 * length ps
-unfolding flatMap
-flat-length [] = refl
-flat-length (c ∷ ps) = omega (arith, flat-length ps)
-
 -- products that were written, and more of them after these
 pub written-more : (l : List ℕ) (ps more : List Product) {after : List Product} {n : ℕ} {words now : List ℕ} → after ≡ ps ++ more → n ≡ length ps
     → words ≡ sets l 8 (flatMap wordsOf ps) → now ≡ sets words (8 + 2 * n) (flatMap wordsOf more) → now ≡ sets l 8 (flatMap wordsOf after)
 written-more l ps more {n = n} e h k g =
-    let at : 8 + 2 * n ≡ 8 + length (flatMap wordsOf ps) = omega (arith, h, flat-length ps) in
+    let at : 8 + 2 * n ≡ 8 + length (flatMap wordsOf ps) = omega (arith, h, words-length ps) in
     g ∙ (λ i. sets (k i) (at i) (flatMap wordsOf more)) ∙ sym (sets-append l 8 (flatMap wordsOf ps) (flatMap wordsOf more))
     ∙ ap (sets l 8) (sym (flatMap-append wordsOf ps more) ∙ sym (ap (flatMap wordsOf) e))
 

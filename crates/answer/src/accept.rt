@@ -1,0 +1,205 @@
+// Accepting a list: its check word by word, and that it was made for as many primitives as the table has.
+use rules::Checked;
+use rules::Product;
+use rules::Row;
+ghost use Prim.Native.Nat.{suc, _+_, _*_, _^_, _≤_, _<_};
+ghost use mathlib.Core.List.{[], _∷_};
+ghost use mathlib.Core.Path.{_≡_};
+ghost use lib.ListN.{length};
+ghost use Rattle.ground.specs.Lists.{firstOf, rulings};
+ghost use Rattle.rules.specs.Table.{rowCount, primitivesBefore, primitives};
+ghost use Rattle.rules.specs.Verdict.{tableRefusal};
+ghost use Rattle.rules.specs.ListWords.{headerWords, primitiveCount, placeOf, productAt};
+ghost use Rattle.rules.specs.ListFaults.{countRight, primitivesRight, productRefusals, headerRefusals, listRefusal, primitivesRefusal};
+ghost use Rattle.rules.specs.Refusals.{refuseIf, refuseUnless};
+ghost use Rattle.laws.specs.Answers.{checkedBy};
+ghost use Rattle.laws.specs.Sound.{Sound};
+ghost use Rattle.answer.specs.Checks.{earlier, boundsBy};
+
+fn refuse_if(broken: bool, number: u64, value: usize) -> Checked
+    ensures { λ r. ⌜ r ≡ checkedBy (refuseIf broken number value) ⌝ }
+{
+    if broken {
+        return table::refused(number, value);
+    }
+    Checked::Sound
+}
+
+// The first of two checks that refuses.
+fn first_of(a: Checked, b: Checked) -> Checked
+    ensures { λ r. ⌜ r ≡ earlier a b ⌝ }
+{
+    match a {
+        Checked::Refused(refusal) => Checked::Refused(refusal),
+        Checked::Sound => b,
+    }
+}
+
+// Word 0: no more products than the list's length holds.
+fn check_count(list: &[u64]) -> Checked
+    requires { ⌜ headerWords ≤ length (now list) ⌝ }
+    ensures { λ r. ⌜ r ≡ checkedBy (refuseUnless (countRight (now (list .entry))) 9 0) ⌝ }
+{
+    let room = ((list.len() - 8) / 2) as u64;
+    refuse_if((65536 < list[0]) | (room < list[0]), 9, 0)
+}
+
+// The bounds of an axis, in words i and i + 1.
+fn check_bounds(list: &[u64], i: usize, most: u64) -> Checked
+    requires { ⌜ i + 1 < length (now list) ⌝ }
+    ensures { λ r. ⌜ r ≡ checkedBy (firstOf (boundsBy (now (list .entry)) i most)) ⌝ }
+{
+    let lo = list[i];
+    let hi = list[i + 1];
+    first_of(
+        refuse_if(most < lo, 9, i),
+        refuse_if((most < hi) | (hi < lo), 9, i + 1),
+    )
+}
+
+// Word 7: 1 to 64 primitives.
+fn check_primitives(list: &[u64]) -> Checked
+    requires { ⌜ headerWords ≤ length (now list) ⌝ }
+    ensures { λ r. ⌜ r ≡ checkedBy (refuseUnless (primitivesRight (now (list .entry))) 9 7) ⌝ }
+{
+    refuse_if((list[7] < 1) | (64 < list[7]), 9, 7)
+}
+
+// Words 0 to 7.
+fn check_header(list: &[u64]) -> Checked
+    requires { ⌜ headerWords ≤ length (now list) ⌝ }
+    ensures { λ r. ⌜ r ≡ checkedBy (firstOf (headerRefusals (now (list .entry)))) ⌝ }
+{
+    let frames = first_of(check_bounds(list, 5, 65535), check_primitives(list));
+    let codes = first_of(check_bounds(list, 3, 65535), frames);
+    let columns = first_of(check_bounds(list, 1, 65535), codes);
+    first_of(check_count(list), columns)
+}
+
+// The greatest set of so many primitives.
+fn all_of(primitives: u64) -> u64
+    requires { ⌜ (1 ≤ primitives) × (primitives ≤ 64) ⌝ }
+    ensures { λ r. ⌜ suc r ≡ 2 ^ primitives ⌝ }
+{
+    let half: u64 = 1 << (primitives - 1);
+    half + (half - 1)
+}
+
+// Product k of a list.
+pub fn product_at(list: &[u64], k: usize) -> Product
+    requires { ⌜ placeOf (k + 1) ≤ length (now list) ⌝ }
+    ensures { λ r. ⌜ r ≡ productAt (now (list .entry)) k ⌝ }
+{
+    let at = 8 + 2 * k;
+    Product {
+        plain: list[at],
+        cuts: list[at + 1],
+    }
+}
+
+// The two words of product k, where `all` is the set of all primitives.
+fn check_product(list: &[u64], k: usize, all: u64) -> Checked
+    requires { ⌜ placeOf (k + 1) ≤ length (now list) ⌝ }
+    requires { ⌜ suc all ≡ 2 ^ primitiveCount (now list) ⌝ }
+    ensures { λ r. ⌜ r ≡ checkedBy (firstOf (productRefusals (now (list .entry)) k)) ⌝ }
+{
+    let at = 8 + 2 * k;
+    let c = product_at(list, k);
+    let plain = refuse_if((c.plain == 0) | (all < c.plain), 9, at);
+    let cuts = refuse_if((all < c.cuts) | (c.plain & c.cuts != 0), 9, at + 1);
+    first_of(plain, cuts)
+}
+
+fn check_products(list: &[u64], products: usize, all: u64) -> Checked
+    requires { ⌜ placeOf products ≤ length (now list) ⌝ }
+    requires { ⌜ suc all ≡ 2 ^ primitiveCount (now list) ⌝ }
+    ensures { λ r. ⌜ r ≡ checkedBy (rulings (λ k. firstOf (productRefusals (now (list .entry)) k)) 0 products) ⌝ }
+{
+    let mut n: usize = 1;
+    while n <= products {
+        let checked = check_product(list, n - 1, all);
+        match checked {
+            Checked::Refused(refusal) => {
+                return Checked::Refused(refusal);
+            }
+            Checked::Sound => {}
+        }
+        n += 1;
+    }
+    Checked::Sound
+}
+
+pub fn check_list(list: &[u64]) -> Checked
+    ensures { λ r. ⌜ r ≡ checkedBy (listRefusal (now (list .entry))) ⌝ }
+{
+    if list.len() < 8 {
+        return table::refused(9, list.len());
+    }
+    let header = check_header(list);
+    match header {
+        Checked::Refused(refusal) => Checked::Refused(refusal),
+        Checked::Sound => check_products(list, list[0] as usize, all_of(list[7])),
+    }
+}
+
+// One row more: how many primitives there are so far.
+fn count_row(table: &[i32], row: usize, count: usize) -> usize
+    requires { ⌜ Sound (now table) ⌝ }
+    requires { ⌜ row < rowCount (now table) ⌝ }
+    requires { ⌜ count ≡ length (primitivesBefore (now table) row) ⌝ }
+    ensures { λ r. ⌜ r ≡ length (primitivesBefore (now (table .entry)) (row + 1)) ⌝ }
+{
+    let reads = table::read_row(table, row);
+    match reads {
+        Row::Solid(_) => count + 1,
+        Row::Union(_, _) => count,
+        Row::Inter(_, _) => count,
+        Row::Diff(_, _) => count,
+    }
+}
+
+fn count_primitives(table: &[i32]) -> usize
+    requires { ⌜ Sound (now table) ⌝ }
+    ensures { λ r. ⌜ r ≡ length (primitives (now (table .entry))) ⌝ }
+{
+    let rows = table.len() / rules::ROW_WORDS;
+    let mut count: usize = 0;
+    let mut row: usize = 0;
+    while row < rows {
+        count = count_row(table, row, count);
+        row += 1;
+    }
+    count
+}
+
+// The list has as many primitives as the table.
+fn check_counts(table: &[i32], list: &[u64]) -> Checked
+    requires { ⌜ Sound (now table) ⌝ }
+    requires { ⌜ headerWords ≤ length (now list) ⌝ }
+    ensures { λ r. ⌜ r ≡ checkedBy (primitivesRefusal (primitives (now (table .entry))) (now (list .entry))) ⌝ }
+{
+    let primitives = count_primitives(table);
+    refuse_if(list[7] != primitives as u64, 11, primitives)
+}
+
+// The table is sound: the list, then the list against the table.
+fn check_against(table: &[i32], list: &[u64]) -> Checked
+    requires { ⌜ Sound (now table) ⌝ }
+    ensures { λ r. ⌜ r ≡ checkedBy (firstOf (listRefusal (now (list .entry)) ∷ primitivesRefusal (primitives (now (table .entry))) (now (list .entry)) ∷ [])) ⌝ }
+{
+    let listed = check_list(list);
+    match listed {
+        Checked::Refused(refusal) => Checked::Refused(refusal),
+        Checked::Sound => check_counts(table, list),
+    }
+}
+
+pub fn check_both(table: &[i32], list: &[u64]) -> Checked
+    ensures { λ r. ⌜ r ≡ checkedBy (firstOf (tableRefusal (now (table .entry)) ∷ listRefusal (now (list .entry)) ∷ primitivesRefusal (primitives (now (table .entry))) (now (list .entry)) ∷ [])) ⌝ }
+{
+    let checked = table::check(table);
+    match checked {
+        Checked::Refused(refusal) => Checked::Refused(refusal),
+        Checked::Sound => check_against(table, list),
+    }
+}
