@@ -5,15 +5,15 @@ use lib.IntN.{ℤ, pos, negsuc}
 use Rattle.rules.specs.declared.Point.{Point}
 use Rattle.rules.specs.declared.Window.{Window}
 
-abbrev pub zero : ℤ
-zero = pos 0
+abbrev pub nought : ℤ
+nought = pos 0
 
 -- a box of columns lo..hi; its codes and frames are 0..0
 abbrev pub box : ℤ → ℤ → List ℤ
-box lo hi = zero ∷ lo ∷ hi ∷ zero ∷ zero ∷ zero ∷ zero ∷ zero ∷ zero ∷ zero ∷ zero ∷ zero ∷ []
+box lo hi = nought ∷ lo ∷ hi ∷ nought ∷ nought ∷ nought ∷ nought ∷ nought ∷ nought ∷ nought ∷ nought ∷ nought ∷ []
 
 abbrev operation : ℕ → ℕ → ℕ → List ℤ
-operation kind left right = pos kind ∷ pos left ∷ pos right ∷ zero ∷ zero ∷ zero ∷ zero ∷ zero ∷ zero ∷ zero ∷ zero ∷ zero ∷ []
+operation kind left right = pos kind ∷ pos left ∷ pos right ∷ nought ∷ nought ∷ nought ∷ nought ∷ nought ∷ nought ∷ nought ∷ nought ∷ nought ∷ []
 
 abbrev pub union : ℕ → ℕ → List ℤ
 union left right = operation 3 left right
@@ -26,7 +26,7 @@ diff left right = operation 5 left right
 
 -- Q = ((A - B) ∪ C) ∩ D, B from a given column on
 abbrev qFrom : ℤ → List ℤ
-qFrom b = box zero (pos 9) ++ (box b (pos 12) ++ (diff 0 1 ++ (box (pos 20) (pos 29) ++ (union 2 3 ++ (box (pos 8) (pos 25) ++ inter 4 5)))))
+qFrom b = box nought (pos 9) ++ (box b (pos 12) ++ (diff 0 1 ++ (box (pos 20) (pos 29) ++ (union 2 3 ++ (box (pos 8) (pos 25) ++ inter 4 5)))))
 
 abbrev pub q : List ℤ
 q = qFrom (pos 9)
@@ -36,10 +36,10 @@ qApart = qFrom (pos 10)
 
 -- A - (B ∩ C), three boxes apart
 abbrev pub farCuts : List ℤ
-farCuts = box zero (pos 9) ++ (box (pos 20) (pos 29) ++ (box (pos 40) (pos 49) ++ (inter 1 2 ++ diff 0 3)))
+farCuts = box nought (pos 9) ++ (box (pos 20) (pos 29) ++ (box (pos 40) (pos 49) ++ (inter 1 2 ++ diff 0 3)))
 
 abbrev nine : List ℤ
-nine = box zero (pos 9)
+nine = box nought (pos 9)
 
 -- (A ∪ B) ∩ (C ∪ D), A - (B - C), and B - A, all 0..9
 abbrev pub crossing : List ℤ
@@ -53,11 +53,11 @@ swapped = nine ++ (nine ++ diff 1 0)
 
 -- 2x - 3y <= 1 in x, y 0..10
 abbrev pub wedge : List ℤ
-wedge = pos 1 ∷ zero ∷ pos 10 ∷ zero ∷ pos 10 ∷ zero ∷ zero ∷ pos 2 ∷ negsuc 2 ∷ zero ∷ pos 1 ∷ zero ∷ []
+wedge = pos 1 ∷ nought ∷ pos 10 ∷ nought ∷ pos 10 ∷ nought ∷ nought ∷ pos 2 ∷ negsuc 2 ∷ nought ∷ pos 1 ∷ nought ∷ []
 
 -- at 0, 0, radii 5 and 3
 abbrev pub drum : List ℤ
-drum = pos 2 ∷ zero ∷ zero ∷ pos 5 ∷ pos 3 ∷ zero ∷ zero ∷ zero ∷ zero ∷ zero ∷ zero ∷ zero ∷ []
+drum = pos 2 ∷ nought ∷ nought ∷ pos 5 ∷ pos 3 ∷ nought ∷ nought ∷ nought ∷ nought ∷ nought ∷ nought ∷ nought ∷ []
 
 abbrev pub twoBoxes : List ℤ
 twoBoxes = nine ++ nine
@@ -70,4 +70,4 @@ abbrev pub full : Window
 full = columnsOf (negsuc 32767) (pos 32767)
 
 abbrev pub at : ℕ → ℕ → Point
-at x y = record { x = pos x; y = pos y; z = zero }
+at x y = record { x = pos x; y = pos y; z = nought }
