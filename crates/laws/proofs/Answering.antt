@@ -19,7 +19,6 @@ use Rattle.ground.proofs.Counting.{numbers-below, kept, all-kept, or-else-none,
 use Rattle.ground.proofs.Lists.{all-map}
 use Rattle.ground.proofs.Order.{leZ-trans}
 use Rattle.rules.specs.declared.Located.{Located}
-use Rattle.rules.specs.declared.Located.the-variants as located
 use Rattle.rules.specs.declared.Place.{Place}
 use Rattle.rules.specs.declared.Point.{Point}
 use Rattle.rules.specs.declared.Product.{Product}
@@ -38,12 +37,12 @@ use Rattle.rules.specs.ListWords.{listWindow}
 use Rattle.rules.specs.Ranges.{Span, within, columns, codes, frames}
 use Rattle.rules.specs.Refusals.{refuse, refuseUnless}
 use Rattle.rules.specs.Table.{primitives}
-use Rattle.rules.specs.Told.{tell}
+use Rattle.rules.specs.Told.{refused, tell, toldLocated}
 use Rattle.rules.specs.Tree.{treeOf}
 use Rattle.rules.specs.TreeCalls.{axisRefusal, pointRefusal, pointTale, searchTale, treePointRefusal, TreeLocated, treeSearchRefusal, TreeSearched}
 use Rattle.rules.specs.Verdict.{tableRefusal}
 use Rattle.rules.proofs.Settled.{tree-located-settled}
-use Rattle.rules.proofs.Told.{located-once, searched-once, wrote-none}
+use Rattle.rules.proofs.Told.{searched-once, wrote-none}
 use Rattle.laws.specs.Sound.{Sound}
 use Rattle.laws.proofs.Answers.{holds-point}
 use Rattle.laws.proofs.Made.{made-window, made-accepted, made-sound}
@@ -210,14 +209,13 @@ module _ (t : List ℤ) (w : Window) (before after : List ℕ) (n : ℕ) (made :
 
   -- a point out of the window is refused: 10, with the first axis on which it is out
   pub list-refuses-outside : (p : Point) → holds (windowBox w) p ≡ false → {a : Located} → ListLocated t after p a
-      → (axis : ℕ) × (pointRefusal (windowBox w) p ≡ refuse 10 axis) × (a ≡ located.Refused (record { number = 10; value = axis }))
+      → (axis : ℕ) × (pointRefusal (windowBox w) p ≡ refuse 10 axis) × (toldLocated a ≡ refused (record { number = 10; value = axis }))
   list-refuses-outside p out {a} by-list =
       let (axis, rule) = point-out (windowBox w) p out in
       let tale = pointTale (insideList (primitives t) after p) in (
         axis,
         rule,
-        located-once a (located.Refused (record { number = 10; value = axis }))
-            (by-list .answer ∙ ap (λ (x : Option Refusal). tell x tale) (point-rule p ∙ rule)),
+        by-list .answer ∙ ap (λ (x : Option Refusal). tell x tale) (point-rule p ∙ rule),
       )
 
   -- a frame that lies in the window: the search over the list and the search over the tree give the same answer

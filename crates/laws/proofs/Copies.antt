@@ -3,7 +3,7 @@ use Prim.Native.Nat.{ℕ, _≤_}
 use native.Mathlib.Omega.{arith}
 use mathlib.Core.List.{List, [], _++_}
 use mathlib.Core.Option.{Option, none}
-use mathlib.Core.Path.{_≡_, refl, sym, ap, _∙_}
+use mathlib.Core.Path.{_≡_, refl, sym, ap, subst, _∙_}
 use borrow.Author.Tests.{leb-true, le-leb}
 use lib.Dec.{leb}
 use lib.IntN.{ℤ}
@@ -71,6 +71,10 @@ module _ {t : List ℤ} {w : Window} {before after : List ℕ} {n : ℕ} (made :
       let beyond = drop (length (zoneList t w)) before in
       ap (take n) (is-over t w before after (Wrote n) made not-refused) ∙ take-at (zoneList t w) beyond n (sym made-length)
 
+-- the call that made a list wrote its words
+made-by : {t : List ℤ} {w : Window} {list : List ℕ} (m : Made t w list) → ListMade t w (m .before) (m .after) (Wrote (m .words))
+made-by {t} {w} m = subst (ListMade t w (m .before) (m .after)) (written-once (m .answer) (Wrote (m .words)) (m .wrote-words)) (m .by-call)
+
 -- where the words of a list stand now, the call would leave them as they are
 pub made-here : {t : List ℤ} {w : Window} {list : List ℕ} (m : Made t w list) → ListMade t w list list (Wrote (m .words))
 made-here {t} {w} {list} m = record {
@@ -83,12 +87,12 @@ made-here {t} {w} {list} m = record {
     zone = zoneList t w
 
     whole : m .words ≡ length zone
-    whole = made-length (m .by-call)
+    whole = made-length (made-by m)
 
     front : zone ≡ take (length zone) list
-    front = sym (m .copied ∙ made-words (m .by-call)) ∙ ap (λ (n : ℕ). take n list) whole
+    front = sym (m .copied ∙ made-words (made-by m)) ∙ ap (λ (n : ℕ). take n list) whole
 
     nothing : makeRefusal t w (length list) ≡ none
     nothing =
         let size = ap (λ (ws : List ℕ). length ws) front ∙ length-take (length zone) list in
-        listable-fine t w (made-listable (m .by-call)) (length list) (omega (arith, size, list-needs t w))
+        listable-fine t w (made-listable (made-by m)) (length list) (omega (arith, size, list-needs t w))

@@ -3,17 +3,16 @@ use Prim.Native.Nat.{ℕ}
 use native.Mathlib.Omega.{arith}
 use mathlib.Core.Bool.{Bool, true, false}
 use mathlib.Core.List.{List, [], _∷_}
+use mathlib.Core.Logic.{_⊎_, inl, inr}
 use mathlib.Core.Option.{Option, none, some}
-use mathlib.Core.Path.{_≡_, refl, sym, ap, _∙_}
+use mathlib.Core.Path.{_≡_, refl, sym, ap, subst, _∙_}
 use lib.IntN.{ℤ}
 use lib.ListN.{length}
 use Rattle.ground.specs.Lists.{firstOf}
 use Rattle.rules.specs.declared.Checked.the-variants as checked
 use Rattle.rules.specs.declared.Located.{Located}
-use Rattle.rules.specs.declared.Located.the-variants as located
 use Rattle.rules.specs.declared.Refusal.{Refusal}
 use Rattle.rules.specs.declared.Searched.{Searched}
-use Rattle.rules.specs.declared.Searched.the-variants as searched
 use Rattle.rules.specs.declared.Written.{Written}
 use Rattle.rules.specs.declared.Written.the-variants as written
 use Rattle.rules.specs.Refusals.{roomRefusal}
@@ -23,8 +22,8 @@ use Rattle.rules.specs.Told.{Tale, Told, sound, clear, hit, wrote, refusal, fin
 use Rattle.rules.specs.TreeCalls.{pointTale, searchTale, TableChecked}
 use Rattle.rules.specs.Verdict.{tableRefusal}
 use Rattle.rules.proofs.Settled.{checked-settled, form-once}
-use Rattle.rules.proofs.Told.{checked-once, located-once, searched-once, written-once}
-use Rattle.laws.specs.Promises.{Answers, Writes}
+use Rattle.rules.proofs.Told.{checked-once, written-once}
+use Rattle.laws.specs.Promises.{OnlyAnswers, Writes}
 
 tale-of : {a b : Told} → a ≡ b → a .tale ≡ b .tale
 tale-of e = ap (λ (told : Told). told .tale) e
@@ -55,31 +54,36 @@ clear-told none none n e = refl
 clear-told none (some k) n e = let tale = tale-of e in absurd (never (cc))
 clear-told (some q) found n e = let tale = tale-of e in absurd (never (cc))
 
+-- where nothing was refused a search told clear, or a hit
+pub search-told : (x : Option Refusal) (found : Option ℕ) (n : ℕ) {told : Told} → told ≡ tell x (searchTale found n) → x ≡ none
+    → (told ≡ fine clear) ⊎ ((first : ℕ) × (count : ℕ) × (told ≡ fine (hit first count)))
+search-told none none n e none-broken = inl e
+search-told none (some first) n e none-broken = inr (first, n, e)
+search-told (some q) found n e none-broken = absurd (never (cc))
+
 -- ---- calls that only answer
 
-module _ {A : Type 0} (toldBy : A → Told) (once : (a b : A) → toldBy a ≡ toldBy b → a ≡ b) (refusing : Refusal → A)
-    (tells : (q : Refusal) → toldBy (refusing q) ≡ refused q) (x : Option Refusal) (tale : Tale) (other : NoRefusal tale) where
-  refuses : {r : A} {q : Refusal} → toldBy r ≡ tell x tale → x ≡ some q → r ≡ refusing q
-  refuses {r} {q} answer e = once r (refusing q) (answer ∙ ap (λ (y : Option Refusal). tell y tale) e ∙ sym (tells q))
+-- a record that fixes what is told: the refusal x, if there is one, and else a tale that is none
+module _ {A : Type 0} (told : A → Told) (x : Option Refusal) (tale : Tale) (other : NoRefusal tale) where
+  refuses : (r : A) {q : Refusal} → told r ≡ tell x tale → x ≡ some q → told r ≡ refused q
+  refuses r answer e = answer ∙ ap (λ (y : Option Refusal). tell y tale) e
 
-  no-other : {q : Refusal} → toldBy (refusing q) ≡ tell x tale → x ≡ some q
-  no-other {q} answer = told-refusal x tale other (sym (tells q) ∙ answer)
+  no-other : (r : A) {q : Refusal} → told r ≡ tell x tale → told r ≡ refused q → x ≡ some q
+  no-other r answer e = told-refusal x tale other (sym e ∙ answer)
 
-  answers : {Meets : A → Type 0} → ((r : A) → Meets r → toldBy r ≡ tell x tale) → ((r s : A) → Meets r → Meets s → r ≡ s)
-      → Answers Meets refusing x
+  answers : {Meets : A → Type 0} → ((r : A) → Meets r → told r ≡ tell x tale) → ((r s : A) → Meets r → Meets s → r ≡ s) → OnlyAnswers told Meets x
   answers answer settled = record {
     settled = λ {r} {s} m n. settled r s m n;
-    refuses = λ {r} m e. refuses (answer r m) e;
-    no-other = λ {q} m. no-other (answer (refusing q) m);
+    refuses = λ {r} m e. refuses r (answer r m) e;
+    no-other = λ {r} m e. no-other r (answer r m) e;
   }
 
-pub check-answers : (t : List ℤ) → Answers (TableChecked t) checked.Refused (tableRefusal t)
-check-answers t =
-    answers toldChecked checked-once checked.Refused (λ q. refl) (tableRefusal t) sound (λ v e. never (cc)) (λ r m. m .answer) (λ r s. checked-settled)
+pub check-answers : (t : List ℤ) → OnlyAnswers toldChecked (TableChecked t) (tableRefusal t)
+check-answers t = answers toldChecked (tableRefusal t) sound (λ v e. never (cc)) (λ r m. m .answer) (λ r s. checked-settled)
 
 pub point-answers : {Meets : Located → Type 0} (x : Option Refusal) (b : Bool) → ((r : Located) → Meets r → toldLocated r ≡ tell x (pointTale b))
-    → ((r s : Located) → Meets r → Meets s → r ≡ s) → Answers Meets located.Refused x
-point-answers x b = answers toldLocated located-once located.Refused (λ q. refl) x (pointTale b) (other b)
+    → ((r s : Located) → Meets r → Meets s → r ≡ s) → OnlyAnswers toldLocated Meets x
+point-answers x b = answers toldLocated x (pointTale b) (other b)
   where
     other : (b : Bool) → NoRefusal (pointTale b)
     other true v e = never (cc)
@@ -87,8 +91,8 @@ point-answers x b = answers toldLocated located-once located.Refused (λ q. refl
 
 pub search-answers : {Meets : Searched → Type 0} (x : Option Refusal) (found : Option ℕ) (count : ℕ)
     → ((r : Searched) → Meets r → toldSearched r ≡ tell x (searchTale found count))
-    → ((r s : Searched) → Meets r → Meets s → r ≡ s) → Answers Meets searched.Refused x
-search-answers x found count = answers toldSearched searched-once searched.Refused (λ q. refl) x (searchTale found count) (other found)
+    → ((r s : Searched) → Meets r → Meets s → r ≡ s) → OnlyAnswers toldSearched Meets x
+search-answers x found count = answers toldSearched x (searchTale found count) (other found)
   where
     other : (found : Option ℕ) → NoRefusal (searchTale found count)
     other none v e = never (cc)
@@ -100,11 +104,11 @@ pub writes : {A : Type 0} {Meets : List A → Written → Type 0} {before : List
     → ((after : List A) (r : Written) → Meets after r → toldWritten r ≡ tell x (wrote n))
     → ((a b : List A) (r s : Written) → Meets a r → Meets b s → (r ≡ s) × (a ≡ b))
     → ((after : List A) (q : Refusal) → Meets after (written.Refused q) → after ≡ before) → Writes Meets before x
-writes x n answer settled keeps = record {
+writes {Meets = Meets} x n answer settled keeps = record {
   settled = λ {a} {b} {r} {s} m k. settled a b r s m k;
-  refuses = λ {after} {r} m e. refuses toldWritten written-once written.Refused (λ q. refl) x (wrote n) other (answer after r m) e;
-  no-other = λ {after} {q} m. no-other toldWritten written-once written.Refused (λ q. refl) x (wrote n) other (answer after (written.Refused q) m);
-  unchanged = λ {after} {q} m. keeps after q m;
+  refuses = λ {after} {r} m e. refuses toldWritten x (wrote n) other r (answer after r m) e;
+  no-other = λ {after} {r} m e. no-other toldWritten x (wrote n) other r (answer after r m) e;
+  unchanged = λ {after} {r} {q} m e. keeps after q (subst (Meets after) (written-once r (written.Refused q) e) m);
 }
   where
     other : NoRefusal (wrote n)

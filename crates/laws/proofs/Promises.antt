@@ -21,14 +21,14 @@ use Rattle.rules.specs.ListInside.{insideList}
 use Rattle.rules.specs.Products.{products}
 use Rattle.rules.specs.Table.{primitives}
 use Rattle.rules.specs.TextCalls.{tableRead, readRefusal, tableText, writeRefusal}
-use Rattle.rules.specs.Told.{fine, wrote, tell}
+use Rattle.rules.specs.Told.{fine, wrote, tell, toldWritten}
 use Rattle.rules.specs.Tree.{treeOf}
 use Rattle.rules.specs.TreeCalls.{treePointRefusal, TreeLocated, treeSearchRefusal}
 use Rattle.rules.specs.Verdict.{tableRefusal}
 use Rattle.rules.proofs.Settled.{tree-located-settled, tree-searched-settled, list-located-settled, list-searched-settled, list-made-settled}
 use Rattle.rules.proofs.Settled.{text-read-settled, text-written-settled, list-made-keeps, text-read-keeps, text-written-keeps}
 use Rattle.rules.proofs.Told.{written-once}
-use Rattle.laws.specs.Promises.{Promise1, InTree, InList, BySet, Made, Faithful, Promise2, needed, Listable, Promise3}
+use Rattle.laws.specs.Promises.{Promise1, InTree, InList, Made, Faithful, Promise2, needed, Listable, Promise3}
 use Rattle.laws.proofs.Answering.{sampleHeld, window-in-range, made-passes, list-locates, list-answers-tree, list-refuses-outside, searches-agree}
 use Rattle.laws.proofs.Copies.{list-needs, listable-fine, not-refused, made-listable, made-fits, made-length, made-words, made-here}
 use Rattle.laws.proofs.Outcomes.{check-answers, point-answers, search-answers, writes, read-answer}
@@ -36,7 +36,7 @@ use Rattle.laws.proofs.Promise.{list-right, list-rest, list-room}
 use Rattle.laws.proofs.Searches.{search-finds}
 use Rattle.laws.proofs.Sets.{says-itself, tests-are-sets, tree-answers-sets}
 use Rattle.laws.proofs.Strangers.{stranger-refused}
-use Rattle.laws.proofs.Texts.{table-text-table, text-table-text}
+use Rattle.laws.proofs.Texts.{writes-text, table-text-table, reads-text, text-table-text}
 
 -- ---- Promise 1: each call by its settled-lemma; a call that writes by its keeps-lemma too
 
@@ -67,13 +67,10 @@ promise-1 = record {
 
 -- ---- Promise 2
 
-by-set : (t : List ℤ) → tableRefusal t ≡ none → (p : Point) → holds everywhere p ≡ true → {r : Located} → TreeLocated t p r → BySet (InTree t p) r
-by-set t kept p ranged met = let s = tree-answers-sets t kept p ranged met in record { in-zone = s .0; out-of-zone = s .1 }
-
 faithful : {t : List ℤ} {w : Window} {list : List ℕ} → Made t w list → Faithful t w list
 faithful {t} {w} {list} m = record {
   answers = λ p held by-list.
-      by-set t (listable .sound) p (window-in-range w (listable .window) p held) (list-locates t w list list n here p held by-list);
+      tree-answers-sets t (listable .sound) p (window-in-range w (listable .window) p held) (list-locates t w list list n here p held by-list);
   as-tree = list-answers-tree t w list list n here;
   refuses = list-refuses-outside t w list list n here;
   frame-as-tree = searches-agree t w list list n here;
@@ -95,14 +92,16 @@ faithful {t} {w} {list} m = record {
 
 pub promise-2 : Promise2
 promise-2 = record {
-  tree-answers = by-set;
+  tree-answers = tree-answers-sets;
   list-answers = λ t w list. faithful;
   tree-searches = λ t samples place.
       search-finds (inside (treeOf t)) (InTree t) (tests-are-sets (treeOf t)) samples place (treeSearchRefusal t samples place) (λ r m. m .answer);
   list-searches = λ t list samples place.
       let isInside = insideList (primitives t) list in
       search-finds isInside (InList t list) (λ p. says-itself (isInside p)) samples place (listSearchRefusal t list samples place) (λ r m. m .answer);
+  writes-text = writes-text;
   table-text-table = table-text-table;
+  reads-text = reads-text;
   text-table-text = text-table-text;
 }
 
@@ -113,15 +112,13 @@ unfolding zoneList products
 promise-3 {t} {w} {before} {after} {r} made = record {
   writes = λ l fits.
       let told = ap (λ (x : Option Refusal). tell x (wrote (length (zoneList t w)))) (listable-fine t w l (length before) fits) in
-      written-once r (Wrote (needed t w)) (made .answer ∙ told ∙ ap (λ (n : ℕ). fine (wrote n)) (list-needs t w));
+      made .answer ∙ told ∙ ap (λ (n : ℕ). fine (wrote n)) (list-needs t w);
   only-then = λ e. (made-listable (wrote-it e), made-fits (wrote-it e));
   exactly = λ e. made-words (wrote-it e);
   each-once = λ e. list-right t w before after r made (not-refused (wrote-it e));
   rest-stays = λ e i l. list-rest t w before after r made (not-refused (wrote-it e)) i (omega (arith, made-length (wrote-it e)));
-  no-room = λ l short.
-      let refusal = list-room t w before after r made (l .sound) (l .window) (l .few) short in
-      (written-once r _ (refusal .0), refusal .1);
+  no-room = λ l short. list-room t w before after r made (l .sound) (l .window) (l .few) short;
 }
   where
-    wrote-it : {n : ℕ} → r ≡ Wrote n → ListMade t w before after (Wrote n)
-    wrote-it e = subst (ListMade t w before after) e made
+    wrote-it : {n : ℕ} → toldWritten r ≡ fine (wrote n) → ListMade t w before after (Wrote n)
+    wrote-it {n} e = subst (ListMade t w before after) (written-once r (Wrote n) e) made

@@ -5,7 +5,7 @@ use native.Mathlib.Omega.{arith}
 use mathlib.Core.Bool.{Bool, true, false, or-false}
 use mathlib.Core.List.{List}
 use mathlib.Core.Option.{Option, none, some}
-use mathlib.Core.Path.{_≡_, sym, subst}
+use mathlib.Core.Path.{_≡_, sym, subst, _∙_}
 use lib.IntN.{ℤ}
 use lib.ListN.{length}
 use Rattle.ground.specs.Lists.{from, below, any, countIf, findIf}
@@ -14,12 +14,11 @@ use Rattle.rules.specs.declared.Place.{Place}
 use Rattle.rules.specs.declared.Point.{Point}
 use Rattle.rules.specs.declared.Refusal.{Refusal}
 use Rattle.rules.specs.declared.Searched.{Searched}
-use Rattle.rules.specs.declared.Searched.the-variants.{Clear, Hit}
 use Rattle.rules.specs.Frame.{codeAt, pointOf, sampleInside, firstInside, insideCount}
 use Rattle.rules.specs.Told.{tell, toldSearched}
 use Rattle.rules.specs.TreeCalls.{searchTale}
 use Rattle.laws.specs.Promises.{SampleIn, Counted, Found, Search}
-use Rattle.laws.proofs.Outcomes.{hit-told, clear-told}
+use Rattle.laws.proofs.Outcomes.{hit-told, clear-told, search-told}
 
 -- a test, and what it says of each position
 module _ (test : ℕ → Bool) (Inside : ℕ → Type 0) (says : (k : ℕ) → Says (test k) (Inside k)) where
@@ -183,11 +182,12 @@ module _ (isInside : Point → Bool) (Holds : Point → Type 0) (says : (p : Poi
 
   pub search-finds : {Meets : Searched → Type 0} (x : Option Refusal)
       → ((r : Searched) → Meets r → toldSearched r ≡ tell x (searchTale (firstInside isInside samples place) (insideCount isInside samples place)))
-      → Search In (length samples) Meets
+      → Search In (length samples) x Meets
   unfolding firstInside insideCount
   search-finds x answer = record {
-    hit = λ {first} {count} m.
-        let told = hit-told x _ _ (answer (Hit first count) m) in
+    answers = λ {r} m none-broken. search-told x (firstInside isInside samples place) (insideCount isInside samples place) (answer r m) none-broken;
+    if-hit = λ {r} {first} {count} m e.
+        let told = hit-told x _ _ (sym e ∙ answer r m) in
         subst (Found In (length samples) first) (told .1) (search-hit test In sample-says (length samples) (told .0));
-    clear = λ m. search-clear test In sample-says (length samples) (clear-told x _ _ (answer Clear m));
+    if-clear = λ {r} m e. search-clear test In sample-says (length samples) (clear-told x _ _ (sym e ∙ answer r m));
   }

@@ -8,7 +8,6 @@ use lib.IntN.{ℤ}
 use Rattle.ground.specs.Tests.{Says}
 use Rattle.ground.proofs.Branches.{false-true}
 use Rattle.rules.specs.declared.Located.{Located}
-use Rattle.rules.specs.declared.Located.the-variants.{Inside, Outside}
 use Rattle.rules.specs.declared.Point.{Point}
 use Rattle.rules.specs.Boxes.{holds, everywhere}
 use Rattle.rules.specs.Verdict.{tableRefusal}
@@ -16,7 +15,7 @@ use Rattle.rules.specs.Tree.{Tree, solid, union, inter, diff, treeOf}
 use Rattle.rules.specs.Inside.{insideSolid, inside}
 use Rattle.rules.specs.Told.{fine, toldLocated}
 use Rattle.rules.specs.TreeCalls.{pointRefusal, pointTale, TreeLocated}
-use Rattle.rules.proofs.Told.{located-once}
+use Rattle.laws.specs.Promises.{BySet}
 use Rattle.laws.specs.Sets.{InSet}
 use Rattle.laws.proofs.Answers.{told-later, told-fine, holds-point}
 
@@ -55,9 +54,9 @@ module _ (t : List ℤ) (sound : tableRefusal t ≡ none) (p : Point) (ranged : 
       met .answer
       ∙ sym (told-later (tableRefusal t) (pointRefusal everywhere p ∷ []) tale sound (told-later (pointRefusal everywhere p) [] tale (holds-point everywhere p ranged) (told-fine tale)))
 
-  go : (b : Bool) → Says b (InSet (treeOf t) p) → toldLocated r ≡ fine (pointTale b) → (InSet (treeOf t) p → r ≡ Inside) × ((InSet (treeOf t) p → ⊥) → r ≡ Outside)
-  go true says e = ((λ k. located-once r Inside e), (λ k. absurd (k says)))
-  go false says e = ((λ k. absurd (says k)), (λ k. located-once r Outside e))
+  go : (b : Bool) → Says b (InSet (treeOf t) p) → toldLocated r ≡ fine (pointTale b) → BySet (InSet (treeOf t) p) r
+  go true says e = record { in-zone = λ k. e; out-of-zone = λ k. absurd (k says) }
+  go false says e = record { in-zone = λ k. absurd (says k); out-of-zone = λ k. e }
 
-  pub tree-answers-sets : (InSet (treeOf t) p → r ≡ Inside) × ((InSet (treeOf t) p → ⊥) → r ≡ Outside)
+  pub tree-answers-sets : BySet (InSet (treeOf t) p) r
   tree-answers-sets = go (inside (treeOf t) p) (tests-are-sets (treeOf t) p) told

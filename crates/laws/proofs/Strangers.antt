@@ -13,7 +13,6 @@ use Rattle.ground.proofs.Counting.{broken, rulings-none, first-kept}
 use Rattle.rules.specs.declared.Place.{Place}
 use Rattle.rules.specs.declared.Refusal.{Refusal}
 use Rattle.rules.specs.declared.Searched.{Searched}
-use Rattle.rules.specs.declared.Searched.the-variants as searched
 use Rattle.rules.specs.Frame.{frameRefusal, leavesRefusal, firstInside, insideCount}
 use Rattle.rules.specs.ListCalls.{listSearchRefusal, ListSearched}
 use Rattle.rules.specs.ListFaults.{listRefusal, primitivesRefusal}
@@ -21,20 +20,19 @@ use Rattle.rules.specs.ListInside.{insideList}
 use Rattle.rules.specs.ListWords.{listWindow}
 use Rattle.rules.specs.Refusals.{refuse, refuseUnless}
 use Rattle.rules.specs.Table.{primitives}
-use Rattle.rules.specs.Told.{tell}
+use Rattle.rules.specs.Told.{refused, tell, toldSearched}
 use Rattle.rules.specs.TreeCalls.{searchTale}
 use Rattle.rules.specs.Verdict.{tableRefusal}
-use Rattle.rules.proofs.Told.{searched-once}
 use Rattle.laws.proofs.Answering.{checks-pass, sampleHeld, sampleRule, held-upto}
 use Rattle.laws.proofs.Soundness.{unless-kept}
 
 -- whoever meets the record of the search over a list
 module _ (t : List ℤ) (list : List ℕ) (samples : List ℤ) (place : Place) {r : Searched} (met : ListSearched t list samples place r) where
-  by-rule : (q : Refusal) → listSearchRefusal t list samples place ≡ some q → r ≡ searched.Refused q
+  by-rule : (q : Refusal) → listSearchRefusal t list samples place ≡ some q → toldSearched r ≡ refused q
   by-rule q e =
       let isInside = insideList (primitives t) list in
       let found = searchTale (firstInside isInside samples place) (insideCount isInside samples place) in
-      searched-once r (searched.Refused q) (met .answer ∙ ap (λ (x : Option Refusal). tell x found) e)
+      met .answer ∙ ap (λ (x : Option Refusal). tell x found) e
 
   -- For every list that passes the checks, whoever made it: a frame with a sample outside the list's window is refused with the first such
   -- sample, so one window's list can never call a neighbour's frame a hit.
@@ -42,7 +40,7 @@ module _ (t : List ℤ) (list : List ℕ) (samples : List ℤ) (place : Place) {
       → frameRefusal samples place ≡ none
       → (k : ℕ) → k < length samples → sampleHeld (listWindow list) samples place k ≡ false
       → ((j : ℕ) → j < k → sampleHeld (listWindow list) samples place j ≡ true)
-      → r ≡ searched.Refused (record { number = 10; value = k })
+      → toldSearched r ≡ refused (record { number = 10; value = k })
   unfolding firstOf
   stranger-refused table right fitting frame k l out earlier = by-rule (record { number = 10; value = k }) first
     where
@@ -57,7 +55,7 @@ module _ (t : List ℤ) (list : List ℕ) (samples : List ℤ) (place : Place) {
           ∙ (λ i. orElse (frame i) (orElse (leaves i) none))
 
   -- And whether or not table, list and frame pass their checks: with some sample outside the list's window the answer is a refusal.
-  pub never-a-hit : (k : ℕ) → k < length samples → sampleHeld (listWindow list) samples place k ≡ false → (q : Refusal) × (r ≡ searched.Refused q)
+  pub never-a-hit : (k : ℕ) → k < length samples → sampleHeld (listWindow list) samples place k ≡ false → (q : Refusal) × (toldSearched r ≡ refused q)
   never-a-hit k l out = go (listSearchRefusal t list samples place) refl
     where
       kept-no : listSearchRefusal t list samples place ≡ none → false ≡ true
@@ -68,6 +66,6 @@ module _ (t : List ℤ) (list : List ℕ) (samples : List ℤ) (place : Place) {
           let kept = rulings-none (sampleRule (listWindow list) samples place) (length samples) leaves k l in
           sym out ∙ unless-kept (sampleHeld (listWindow list) samples place k) 10 k kept
 
-      go : (x : Option Refusal) → listSearchRefusal t list samples place ≡ x → (q : Refusal) × (r ≡ searched.Refused q)
+      go : (x : Option Refusal) → listSearchRefusal t list samples place ≡ x → (q : Refusal) × (toldSearched r ≡ refused q)
       go none e = false-true (kept-no e)
       go (some q) e = (q, by-rule q e)

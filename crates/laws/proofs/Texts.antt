@@ -33,10 +33,11 @@ use Rattle.rules.specs.Told.{fine, wrote, tell, toldWritten}
 use Rattle.rules.specs.Verdict.{lengthRefusal, rowRefusalBy, rowRefusal, rowsRefusal, tableRefusal}
 use Rattle.rules.proofs.Lines.{noRow}
 use Rattle.rules.proofs.Settled.{form-once}
-use Rattle.rules.proofs.Told.{written-once, wrote-none}
+use Rattle.rules.proofs.Told.{wrote-none}
 use Rattle.laws.specs.Sound.{Sound}
 use Rattle.laws.proofs.Apart.{next-row}
 use Rattle.laws.proofs.Numbering.{number-kind, kind-number}
+use Rattle.laws.proofs.Outcomes.{read-answer}
 use Rattle.laws.proofs.Soundness.{unless-kept, table-sound}
 use Rattle.laws.proofs.TextLengths.{few-named, Named, text-most}
 
@@ -196,11 +197,11 @@ module _ (t : List ℤ) (kept : tableRefusal t ≡ none) where
 -- ---- the calls
 
 -- a call with a result to write, and x to refuse: where x is none, it wrote the result
-none-wrote : {A : Type 0} (x : Option Refusal) (result before : List A) {after : List A} {r : Written}
+none-wrote : {A : Type 0} (x : Option Refusal) (result before : List A) {after : List A} (r : Written)
     → toldWritten r ≡ tell x (wrote (length result)) → after ≡ leave x result before → x ≡ none
-    → (r ≡ Wrote (length result)) × (take (length result) after ≡ result)
-none-wrote x result before {r = r} answer buffer e = (
-  written-once r (Wrote (length result)) (answer ∙ ap (λ (y : Option Refusal). tell y (wrote (length result))) e),
+    → (toldWritten r ≡ fine (wrote (length result))) × (take (length result) after ≡ result)
+none-wrote x result before r answer buffer e = (
+  answer ∙ ap (λ (y : Option Refusal). tell y (wrote (length result))) e,
   ap (take (length result)) (buffer ∙ ap (λ (y : Option Refusal). leave y result before) e) ∙ take-append-seam result _,
 )
 
@@ -245,34 +246,47 @@ pub write-fine : (t : List ℤ) (room : ℕ) → tableRefusal t ≡ none → len
 unfolding firstOf
 write-fine t room kept fits = rw (kept, le-leb (length (tableText t)) room fits)
 
+-- a sound table's text is written, and a right text of a sound table is read, where there is room
+pub writes-text : {t : List ℤ} {before text : List ℕ} {r : Written} → TextWritten t before text r → tableRefusal t ≡ none
+    → length (tableText t) ≤ length before → toldWritten r ≡ fine (wrote (length (tableText t)))
+writes-text {t} {before} {r = r} written kept fits =
+    none-wrote (writeRefusal t (length before)) (tableText t) before r (written .answer) (written .buffer) (write-fine t (length before) kept fits) .0
+
+pub reads-text : {text : List ℕ} (form : TextForm text) {room table : List ℤ} {r : Written} → TextRead text room table r
+    → formRefusal form ≡ none → tableRefusal (tableRead form) ≡ none → length (tableRead form) ≤ length room
+    → toldWritten r ≡ fine (wrote (length (tableRead form)))
+reads-text form {room} read right kept fits =
+    read-answer form read ∙ ap (λ (x : Option Refusal). tell x (wrote (length (tableRead form)))) (read-fine form (length room) right kept fits)
+
 -- a table's text, written and then read, gives the table
-pub table-text-table : {t : List ℤ} {before text : List ℕ} {n : ℕ} → All Word32 t → TextWritten t before text (Wrote n)
-    → {room after : List ℤ} {r : Written} → TextRead (take n text) room after r → length t ≤ length room
-    → (r ≡ Wrote (length t)) × (take (length t) after ≡ t)
-table-text-table {t} {before} fit written {room} {after} {r} read fits =
+pub table-text-table : {t : List ℤ} {before text : List ℕ} {r : Written} {n : ℕ} → All Word32 t → TextWritten t before text r
+    → toldWritten r ≡ fine (wrote n)
+    → {room after : List ℤ} {s : Written} → TextRead (take n text) room after s → length t ≤ length room
+    → (toldWritten s ≡ fine (wrote (length t))) × (take (length t) after ≡ t)
+table-text-table {t} {before} fit written told {room} {after} {s} read fits =
     let form = read .form in
-    let done = wrote-result (writeRefusal t (length before)) (tableText t) before (written .answer) (written .buffer) in
+    let done = wrote-result (writeRefusal t (length before)) (tableText t) before (sym told ∙ written .answer) (written .buffer) in
     let kept = first-kept (tableRefusal t) _ (done .0) .0 in
     let accepted = text-accepted form t fit kept (done .1) in
     let same : tableRead form ≡ t = accepted .1 in
     let nothing = read-fine form (length room) (accepted .0) (ap tableRefusal same ∙ kept) (rw same fits) in
-    subst (λ (table : List ℤ). (r ≡ Wrote (length table)) × (take (length table) after ≡ table)) same
-    (none-wrote (readRefusal form (length room)) (tableRead form) room (read .answer) (read .buffer) nothing)
+    subst (λ (table : List ℤ). (toldWritten s ≡ fine (wrote (length table))) × (take (length table) after ≡ table)) same
+    (none-wrote (readRefusal form (length room)) (tableRead form) room s (read .answer) (read .buffer) nothing)
 
 -- a text that was accepted, written again, is as it was
-pub text-table-text : {text : List ℕ} {room table : List ℤ} {m : ℕ} → TextRead text room table (Wrote m)
-    → {before after : List ℕ} {r : Written} → TextWritten (take m table) before after r → length text ≤ length before
-    → (r ≡ Wrote (length text)) × (take (length text) after ≡ text)
-text-table-text {text} {room} {table} {m} read {before} {after} {r} written fits =
+pub text-table-text : {text : List ℕ} {room table : List ℤ} {r : Written} {n : ℕ} → TextRead text room table r → toldWritten r ≡ fine (wrote n)
+    → {before after : List ℕ} {s : Written} → TextWritten (take n table) before after s → length text ≤ length before
+    → (toldWritten s ≡ fine (wrote (length text))) × (take (length text) after ≡ text)
+text-table-text {text} {room} {table} {n = n} read told {before} {after} {s} written fits =
     let form = read .form in
-    let t = take m table in
-    let done = wrote-result (readRefusal form (length room)) (tableRead form) room (read .answer) (read .buffer) in
+    let t = take n table in
+    let done = wrote-result (readRefusal form (length room)) (tableRead form) room (sym told ∙ read .answer) (read .buffer) in
     let accepted = first-kept (formRefusal form) _ (done .0) in
     let kept = first-kept (tableRefusal (tableRead form)) _ (accepted .1) .0 in
     let same : tableText t ≡ text = ap tableText (done .1) ∙ spelt-back form (accepted .0) in
     let nothing = write-fine t (length before) (ap tableRefusal (done .1) ∙ kept) (rw same fits) in
-    subst (λ (bytes : List ℕ). (r ≡ Wrote (length bytes)) × (take (length bytes) after ≡ bytes)) same
-    (none-wrote (writeRefusal t (length before)) (tableText t) before (written .answer) (written .buffer) nothing)
+    subst (λ (bytes : List ℕ). (toldWritten s ≡ fine (wrote (length bytes))) × (take (length bytes) after ≡ bytes)) same
+    (none-wrote (writeRefusal t (length before)) (tableText t) before s (written .answer) (written .buffer) nothing)
 
 -- a text that was accepted: its table lies in the buffer, and is sound
 module _ {text : List ℕ} {room table : List ℤ} {m : ℕ} (read : TextRead text room table (Wrote m)) where

@@ -1,25 +1,23 @@
 -- The three promises of the library, sentence by sentence, of whatever meets the records of the public calls (crates/rules/specs).
--- proofs/Promises.antt proves them; docs/PROMISES.md walks through them and says how to read this.
+-- proofs/Promises.antt proves them; docs/PROMISES.md walks through them and says how to read this. Answers speak by what they tell (section 12 of
+-- docs/RULES.md): `fine tale` has the number 0, `refused q` the number and the value of the refusal q.
 use Prim.Native.Nat.{ℕ, _+_, _*_, _≤_, _<_}
 use mathlib.Core.Bool.{true, false}
 use mathlib.Core.List.{List, map}
+use mathlib.Core.Logic.{_⊎_}
 use mathlib.Core.Option.{Option, none, some}
 use mathlib.Core.Path.{_≡_}
 use lib.IntN.{ℤ}
 use lib.ListN.{length, take}
 use Rattle.ground.specs.Lists.{All, keepIf}
-use Rattle.rules.specs.declared.Checked.the-variants as checked
 use Rattle.rules.specs.declared.Located.{Located}
-use Rattle.rules.specs.declared.Located.the-variants as located
 use Rattle.rules.specs.declared.Place.{Place}
 use Rattle.rules.specs.declared.Point.{Point}
 use Rattle.rules.specs.declared.Product.{Product}
 use Rattle.rules.specs.declared.Refusal.{Refusal}
 use Rattle.rules.specs.declared.Searched.{Searched}
-use Rattle.rules.specs.declared.Searched.the-variants as searched
 use Rattle.rules.specs.declared.Window.{Window}
 use Rattle.rules.specs.declared.Written.{Written}
-use Rattle.rules.specs.declared.Written.the-variants as written
 use Rattle.rules.specs.Boxes.{holds, everywhere, windowBox}
 use Rattle.rules.specs.Choices.{choices, inOf, expansion}
 use Rattle.rules.specs.Frame.{codeAt, pointOf, frameRefusal}
@@ -29,8 +27,9 @@ use Rattle.rules.specs.ListWords.{headerWords, productWords, listOf, word}
 use Rattle.rules.specs.Products.{stays, trimmed, firsts}
 use Rattle.rules.specs.Refusals.{refuse}
 use Rattle.rules.specs.Table.{primitives}
-use Rattle.rules.specs.TextCalls.{readRefusal, TextRead, writeRefusal, TextWritten}
+use Rattle.rules.specs.TextCalls.{tableRead, formRefusal, readRefusal, TextRead, tableText, writeRefusal, TextWritten}
 use Rattle.rules.specs.TextForm.{Word32, TextForm}
+use Rattle.rules.specs.Told.{Told, inside, outside, clear, hit, wrote, fine, refused, toldChecked, toldLocated, toldSearched, toldWritten}
 use Rattle.rules.specs.Tree.{treeOf}
 use Rattle.rules.specs.TreeCalls.{pointRefusal, TableChecked, treePointRefusal, TreeLocated, treeSearchRefusal, TreeSearched}
 use Rattle.rules.specs.Verdict.{tableRefusal}
@@ -44,37 +43,37 @@ use Rattle.laws.specs.Sets.{InSet}
 -- The first sentence is what the prover checks of each public function: it has the call's record as its contract and no precondition, it ends, and
 -- every index is within what is lent. The other is said below of the records, call by call. What is lent for reading only cannot be written.
 
--- A call that only answers, at one input. `Meets r` says that the answer r meets the call's record. `rule` is what the rules refuse there, if
--- anything: the first broken rule in their order, with its number and value.
-pub record Answers {A : Type 0} (Meets : A → Type 0) (refused : Refusal → A) (rule : Option Refusal) : Type 0 where
+-- A call that only answers, at one input. `Meets r` says that the answer r meets the call's record, and `told r` is what it tells. `rule` is what the
+-- rules refuse there, if anything: the first broken rule in their order, with its number and value.
+pub record OnlyAnswers {A : Type 0} (told : A → Told) (Meets : A → Type 0) (rule : Option Refusal) : Type 0 where
   -- two answers that meet the record are the same
   pub settled : {r s : A} → Meets r → Meets s → r ≡ s
   -- what the rules refuse gets the refusal of the rules
-  pub refuses : {r : A} {q : Refusal} → Meets r → rule ≡ some q → r ≡ refused q
+  pub refuses : {r : A} {q : Refusal} → Meets r → rule ≡ some q → told r ≡ refused q
   -- and nothing else is refused
-  pub no-other : {q : Refusal} → Meets (refused q) → rule ≡ some q
+  pub no-other : {r : A} {q : Refusal} → Meets r → told r ≡ refused q → rule ≡ some q
 
 -- A call that writes into a lent buffer: `Meets after r` says that it left `after` there, and answered r.
 pub record Writes {A : Type 0} (Meets : List A → Written → Type 0) (before : List A) (rule : Option Refusal) : Type 0 where
   -- two outcomes that meet the record are the same, in the answer and in the buffer
   pub settled : {a b : List A} {r s : Written} → Meets a r → Meets b s → (r ≡ s) × (a ≡ b)
   -- what the rules refuse gets the refusal of the rules
-  pub refuses : {after : List A} {r : Written} {q : Refusal} → Meets after r → rule ≡ some q → r ≡ written.Refused q
+  pub refuses : {after : List A} {r : Written} {q : Refusal} → Meets after r → rule ≡ some q → toldWritten r ≡ refused q
   -- and nothing else is refused
-  pub no-other : {after : List A} {q : Refusal} → Meets after (written.Refused q) → rule ≡ some q
+  pub no-other : {after : List A} {r : Written} {q : Refusal} → Meets after r → toldWritten r ≡ refused q → rule ≡ some q
   -- a refusal leaves the buffer as it was
-  pub unchanged : {after : List A} {q : Refusal} → Meets after (written.Refused q) → after ≡ before
+  pub unchanged : {after : List A} {r : Written} {q : Refusal} → Meets after r → toldWritten r ≡ refused q → after ≡ before
 
 -- the eight public calls, at every input
 pub record Promise1 : Type 0 where
-  pub check-table : (t : List ℤ) → Answers (TableChecked t) checked.Refused (tableRefusal t)
-  pub tree-point : (t : List ℤ) (p : Point) → Answers (TreeLocated t p) located.Refused (treePointRefusal t p)
+  pub check-table : (t : List ℤ) → OnlyAnswers toldChecked (TableChecked t) (tableRefusal t)
+  pub tree-point : (t : List ℤ) (p : Point) → OnlyAnswers toldLocated (TreeLocated t p) (treePointRefusal t p)
   pub tree-search : (t samples : List ℤ) (place : Place)
-      → Answers (TreeSearched t samples place) searched.Refused (treeSearchRefusal t samples place)
+      → OnlyAnswers toldSearched (TreeSearched t samples place) (treeSearchRefusal t samples place)
   pub make-list : (t : List ℤ) (w : Window) (before : List ℕ) → Writes (ListMade t w before) before (makeRefusal t w (length before))
-  pub list-point : (t : List ℤ) (list : List ℕ) (p : Point) → Answers (ListLocated t list p) located.Refused (listPointRefusal t list p)
+  pub list-point : (t : List ℤ) (list : List ℕ) (p : Point) → OnlyAnswers toldLocated (ListLocated t list p) (listPointRefusal t list p)
   pub list-search : (t : List ℤ) (list : List ℕ) (samples : List ℤ) (place : Place)
-      → Answers (ListSearched t list samples place) searched.Refused (listSearchRefusal t list samples place)
+      → OnlyAnswers toldSearched (ListSearched t list samples place) (listSearchRefusal t list samples place)
   -- `form` is how the text stands: too long, with a first faulty line, or right
   pub read-text : (text : List ℕ) (form : TextForm text) (before : List ℤ) → Writes (TextRead text before) before (readRefusal form (length before))
   pub write-text : (t : List ℤ) (before : List ℕ) → Writes (TextWritten t before) before (writeRefusal t (length before))
@@ -102,15 +101,17 @@ SampleIn Holds samples place k = Holds (pointOf place k (codeAt samples k))
 
 -- the answer at a point: inside where the zone holds it, outside where it does not
 pub record BySet (InZone : Type 0) (r : Located) : Type 0 where
-  pub in-zone : InZone → r ≡ located.Inside
-  pub out-of-zone : (InZone → ⊥) → r ≡ located.Outside
+  pub in-zone : InZone → toldLocated r ≡ fine inside
+  pub out-of-zone : (InZone → ⊥) → toldLocated r ≡ fine outside
 
 -- a list made from the table for the window: the words that the call wrote, wherever they stand and whatever follows them
 pub record Made (t : List ℤ) (w : Window) (list : List ℕ) : Type 0 where
   pub before : List ℕ
   pub after : List ℕ
+  pub answer : Written
+  pub by-call : ListMade t w before after answer
   pub words : ℕ
-  pub by-call : ListMade t w before after (written.Wrote words)
+  pub wrote-words : toldWritten answer ≡ fine (wrote words)
   pub copied : take words list ≡ take words after
 
 -- what such a list answers, in its window and out of it
@@ -120,14 +121,14 @@ pub record Faithful (t : List ℤ) (w : Window) (list : List ℕ) : Type 0 where
   pub as-tree : (p : Point) → InWindow w p → {r s : Located} → ListLocated t list p r → TreeLocated t p s → r ≡ s
   -- every other point it refuses: 10, with the first axis on which the point is out of the window
   pub refuses : (p : Point) → OutOfWindow w p → {r : Located} → ListLocated t list p r
-      → (axis : ℕ) × (pointRefusal (windowBox w) p ≡ refuse 10 axis) × (r ≡ located.Refused (record { number = 10; value = axis }))
+      → (axis : ℕ) × (pointRefusal (windowBox w) p ≡ refuse 10 axis) × (toldLocated r ≡ refused (record { number = 10; value = axis }))
   -- so with frames: where all samples are in the window, a search gives the tree's answer
   pub frame-as-tree : (samples : List ℤ) (place : Place) → ((k : ℕ) → k < length samples → SampleIn (InWindow w) samples place k)
       → {r s : Searched} → ListSearched t list samples place r → TreeSearched t samples place s → r ≡ s
   -- every other frame that is right in itself it refuses: 10, with the first sample that is out of the window
   pub refuses-frame : (samples : List ℤ) (place : Place) → frameRefusal samples place ≡ none
       → (k : ℕ) → k < length samples → SampleIn (OutOfWindow w) samples place k → ((j : ℕ) → j < k → SampleIn (InWindow w) samples place j)
-      → {r : Searched} → ListSearched t list samples place r → r ≡ searched.Refused (record { number = 10; value = k })
+      → {r : Searched} → ListSearched t list samples place r → toldSearched r ≡ refused (record { number = 10; value = k })
 
 -- exactly `count` of the positions below n are inside: `position` gives each of them once, rising
 pub record Counted (Inside : ℕ → Type 0) (n count : ℕ) : Type 0 where
@@ -146,11 +147,15 @@ pub record Found (Inside : ℕ → Type 0) (n first count : ℕ) : Type 0 where
   -- it gives the number of inside samples
   pub how-many : Counted Inside n count
 
--- what the answer r of a search says of the n samples of a frame, where `Meets r` says that r meets the call's record
-pub record Search (Inside : ℕ → Type 0) (n : ℕ) (Meets : Searched → Type 0) : Type 0 where
-  pub hit : {first count : ℕ} → Meets (searched.Hit first count) → Found Inside n first count
+-- what the answer r of a search says of the n samples of a frame, where `Meets r` says that r meets the call's record, and `rule` is what the rules
+-- refuse there, if anything
+pub record Search (Inside : ℕ → Type 0) (n : ℕ) (rule : Option Refusal) (Meets : Searched → Type 0) : Type 0 where
+  -- where no rule is broken it says clear, or a hit
+  pub answers : {r : Searched} → Meets r → rule ≡ none
+      → (toldSearched r ≡ fine clear) ⊎ ((first : ℕ) × (count : ℕ) × (toldSearched r ≡ fine (hit first count)))
+  pub if-hit : {r : Searched} {first count : ℕ} → Meets r → toldSearched r ≡ fine (hit first count) → Found Inside n first count
   -- clear: no sample is inside
-  pub clear : Meets searched.Clear → (k : ℕ) → k < n → Inside k → ⊥
+  pub if-clear : {r : Searched} → Meets r → toldSearched r ≡ fine clear → (k : ℕ) → k < n → Inside k → ⊥
 
 pub record Promise2 : Type 0 where
   -- At every integer point in range the tree's answer is that of the set operations.
@@ -160,18 +165,25 @@ pub record Promise2 : Type 0 where
   pub list-answers : (t : List ℤ) (w : Window) (list : List ℕ) → Made t w list → Faithful t w list
   -- A search gives the first inside sample and how many there are: over the tree, and over a list.
   pub tree-searches : (t samples : List ℤ) (place : Place)
-      → Search (SampleIn (InTree t) samples place) (length samples) (TreeSearched t samples place)
+      → Search (SampleIn (InTree t) samples place) (length samples) (treeSearchRefusal t samples place) (TreeSearched t samples place)
   pub list-searches : (t : List ℤ) (list : List ℕ) (samples : List ℤ) (place : Place)
-      → Search (SampleIn (InList t list) samples place) (length samples) (ListSearched t list samples place)
-  -- Tree to text to tree is the same tree: the n bytes that were written are accepted, where there is room, and give the table. Its words are of
-  -- 32 bits, as a table is lent.
-  pub table-text-table : {t : List ℤ} {before text : List ℕ} {n : ℕ} → All Word32 t → TextWritten t before text (written.Wrote n)
-      → {room after : List ℤ} {r : Written} → TextRead (take n text) room after r → length t ≤ length room
-      → (r ≡ written.Wrote (length t)) × (take (length t) after ≡ t)
-  -- An accepted text comes back byte for byte: the n words that were read can be written, where there is room, and give the text.
-  pub text-table-text : {text : List ℕ} {room table : List ℤ} {n : ℕ} → TextRead text room table (written.Wrote n)
-      → {before after : List ℕ} {r : Written} → TextWritten (take n table) before after r → length text ≤ length before
-      → (r ≡ written.Wrote (length text)) × (take (length text) after ≡ text)
+      → Search (SampleIn (InList t list) samples place) (length samples) (listSearchRefusal t list samples place) (ListSearched t list samples place)
+  -- Tree to text to tree is the same tree: the text of a sound table is written, where there is room for it, ..
+  pub writes-text : {t : List ℤ} {before text : List ℕ} {r : Written} → TextWritten t before text r → tableRefusal t ≡ none
+      → length (tableText t) ≤ length before → toldWritten r ≡ fine (wrote (length (tableText t)))
+  -- .. and the n bytes that were written are read, where there is room, as that table. Its words are of 32 bits, as a table is lent.
+  pub table-text-table : {t : List ℤ} {before text : List ℕ} {r : Written} {n : ℕ} → All Word32 t → TextWritten t before text r
+      → toldWritten r ≡ fine (wrote n)
+      → {room after : List ℤ} {s : Written} → TextRead (take n text) room after s → length t ≤ length room
+      → (toldWritten s ≡ fine (wrote (length t))) × (take (length t) after ≡ t)
+  -- An accepted text comes back byte for byte: a text of right form whose table is sound is read, where there is room for the table, ..
+  pub reads-text : {text : List ℕ} (form : TextForm text) {room table : List ℤ} {r : Written} → TextRead text room table r
+      → formRefusal form ≡ none → tableRefusal (tableRead form) ≡ none → length (tableRead form) ≤ length room
+      → toldWritten r ≡ fine (wrote (length (tableRead form)))
+  -- .. and the n words that were read are written, where there is room, as that text.
+  pub text-table-text : {text : List ℕ} {room table : List ℤ} {r : Written} {n : ℕ} → TextRead text room table r → toldWritten r ≡ fine (wrote n)
+      → {before after : List ℕ} {s : Written} → TextWritten (take n table) before after s → length text ≤ length before
+      → (toldWritten s ≡ fine (wrote (length text))) × (take (length text) after ≡ text)
 
 -- ==== Promise 3
 -- For a sound tree and window with at most 65,536 unpruned choices and room, the list is exactly what remains when every way of choosing is written
@@ -196,13 +208,13 @@ pub record Listable (t : List ℤ) (w : Window) : Type 0 where
 -- of a call that meets its record, found `before` in the buffer, left `after` there and answered r
 pub record Promise3 (t : List ℤ) (w : Window) (before after : List ℕ) (r : Written) : Type 0 where
   -- With room it writes the list; it writes one only under those conditions.
-  pub writes : Listable t w → needed t w ≤ length before → r ≡ written.Wrote (needed t w)
-  pub only-then : {n : ℕ} → r ≡ written.Wrote n → Listable t w × (needed t w ≤ length before)
+  pub writes : Listable t w → needed t w ≤ length before → toldWritten r ≡ fine (wrote (needed t w))
+  pub only-then : {n : ℕ} → toldWritten r ≡ fine (wrote n) → Listable t w × (needed t w ≤ length before)
   -- The list is exactly what remains when every way of choosing is written out first and pruned afterwards, word for word, ..
-  pub exactly : {n : ℕ} → r ≡ written.Wrote n → take n after ≡ listOf w (length (primitives t)) (prunedAfterwards t w)
+  pub exactly : {n : ℕ} → toldWritten r ≡ fine (wrote n) → take n after ≡ listOf w (length (primitives t)) (prunedAfterwards t w)
   -- .. so that it has each distinct product once, in order, none besides (`Listed` says so, product by product).
-  pub each-once : {n : ℕ} → r ≡ written.Wrote n → Listed t w after
+  pub each-once : {n : ℕ} → toldWritten r ≡ fine (wrote n) → Listed t w after
   -- Words after it stay.
-  pub rest-stays : {n : ℕ} → r ≡ written.Wrote n → (i : ℕ) → n ≤ i → word after i ≡ word before i
+  pub rest-stays : {n : ℕ} → toldWritten r ≡ fine (wrote n) → (i : ℕ) → n ≤ i → word after i ≡ word before i
   -- If it does not fit, the refusal names the room, and the buffer is as it was.
-  pub no-room : Listable t w → length before < needed t w → (r ≡ written.Refused (record { number = 8; value = needed t w })) × (after ≡ before)
+  pub no-room : Listable t w → length before < needed t w → (toldWritten r ≡ refused (record { number = 8; value = needed t w })) × (after ≡ before)

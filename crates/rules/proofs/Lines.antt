@@ -1,6 +1,5 @@
--- A text's lines tell its rows: what is spelt is spelt in one way, and every line of it is right. Assumes nothing.
-use Prim.Native.Nat.{ℕ, zero, suc, _≤_, _<_}
-use native.Mathlib.Decide.{decLe}
+-- A text's lines tell its rows: what is spelt is spelt in one way, and none of its lines is faulty. Assumes nothing.
+use Prim.Native.Nat.{ℕ, _≤_}
 use native.Mathlib.Omega.{arith}
 use mathlib.Core.Bool.{false}
 use mathlib.Core.List.{List, [], _∷_, _++_, map, flatMap, append-nil, append-assoc, append-cancel-left, append-cancel-right}
@@ -19,7 +18,7 @@ use Rattle.rules.specs.declared.Kind.the-variants.{Box, Wedge, Drum, Uni
 use Rattle.rules.specs.Kinds.{kinds, namedWords}
 use Rattle.rules.specs.Table.{mostRows}
 use Rattle.rules.specs.Text.{tab, lineFeed, decimal, numberText, zoneName, kindName, TextRow, headerLine, fieldText, lineOf, textOf}
-use Rattle.rules.specs.TextForm.{prepended, linesOf, Word32, RightRow, RightLine, RightAfter}
+use Rattle.rules.specs.TextForm.{prepended, linesOf, Word32, RightRow, RightHeader, lineAfter, RightRows, FirstFault, no-header, no-row, no-end}
 use Rattle.rules.proofs.Numbers.{decimal-once, number-once, decimal-run, number-run}
 
 -- ---- a line is the text of one row
@@ -152,37 +151,33 @@ text-once xs ys rx ry e = lines-once xs ys rx ry (tail-eq-of-cons-eq (sym (text-
 abbrev pub noRow : TextRow
 noRow = record { kind = Box; words = [] }
 
--- every line of a text that has begun is right, up to its last row
-module _ (n : ℕ) (some-row : 1 ≤ n) (not-over : n ≤ mostRows) (rows : List TextRow) (right : All RightRow rows) (more : List (List ℕ)) where
-  abbrev lines : List (List ℕ)
-  lines = headerLine n ∷ (map lineOf rows ++ more)
+-- a line is the header of one row count only
+pub header-rows : {line : List ℕ} {m n : ℕ} → RightHeader line m → RightHeader line n → m ≡ n
+header-rows {m = m} {n = n} a b = header-once m n (a .not-over) (b .not-over) (sym (a .is) ∙ b .is)
 
-  right-line : (k : ℕ) → k < length rows → RightLine (getD (map lineOf rows ++ more) k [])
-  right-line k h = record {
-    row = getD rows k noRow;
-    right = all-at RightRow noRow rows right k h;
-    is = List·getD-append (map lineOf rows) more [] k (omega (arith, length-map rows lineOf)) ∙ map-at lineOf noRow [] rows k h;
-  }
+-- the rows of a text that has begun stand on right lines
+pub begun-rows : (n : ℕ) (rows : List TextRow) (more : List (List ℕ)) → All RightRow rows → RightRows (headerLine n ∷ (map lineOf rows ++ more)) (length rows)
+begun-rows n rows more right k l = record {
+  row = getD rows k noRow;
+  right = all-at RightRow noRow rows right k l;
+  is = List·getD-append (map lineOf rows) more [] k (omega (arith, length-map rows lineOf)) ∙ map-at lineOf noRow [] rows k l;
+}
 
-  pub begun-right : length rows ≤ n → (k : ℕ) → k ≤ length rows → RightAfter lines k
-  begun-right few zero h = (n, record { some-row = some-row; not-over = not-over; is = refl })
-  begun-right few (suc k) h = λ m header.
-      let same : m ≡ n = header-once m n (header .not-over) not-over (sym (header .is)) in
-      ((λ l. right-line k h), (λ l. absurd (omega arith)))
-
--- and every line of a text that is spelt
+-- and a text that is spelt has no faulty line
 module _ (rows : List TextRow) (some-row : 1 ≤ length rows) (not-over : length rows ≤ mostRows) (right : All RightRow rows) where
-  after-last : (k : ℕ) → length rows < k → RightAfter (headerLine (length rows) ∷ map lineOf rows) k
-  after-last zero h = absurd (omega arith)
-  after-last (suc k) h = λ n header.
-      let same : n ≡ length rows = header-once n (length rows) (header .not-over) not-over (sym (header .is)) in
-      ((λ l. absurd (omega arith)), (λ l. omega (arith, length-map rows lineOf)))
+  abbrev spelt : List (List ℕ)
+  spelt = headerLine (length rows) ∷ map lineOf rows
 
-  pub spelt-right : (k : ℕ) → RightAfter (linesOf (textOf rows)) k
-  spelt-right k = subst (λ (ls : List (List ℕ)). RightAfter ls k) (sym (text-lines rows)) (go (decLe k (length rows)))
-    where
-      go : Dec (k ≤ length rows) → RightAfter (headerLine (length rows) ∷ map lineOf rows) k
-      go (yes h) =
-          subst (λ (ls : List (List ℕ)). RightAfter (headerLine (length rows) ∷ ls) k) (append-nil (map lineOf rows))
-          (begun-right (length rows) some-row not-over rows right [] (omega arith) k h)
-      go (no h) = after-last k (omega arith)
+  header : RightHeader (lineAfter spelt 0) (length rows)
+  header = record { some-row = some-row; not-over = not-over; is = refl }
+
+  row-lines : RightRows spelt (length rows)
+  row-lines = subst (λ (ls : List (List ℕ)). RightRows (headerLine (length rows) ∷ ls) (length rows)) (append-nil (map lineOf rows)) (begun-rows (length rows) rows [] right)
+
+  no-fault : {number : ℕ} → FirstFault spelt number → ⊥
+  no-fault (no-header is none) = none (length rows) header
+  no-fault (no-row n k is named others l wrong) = let same = header-rows named header in wrong (row-lines k (omega arith))
+  no-fault (no-end n is named others more) = let same = header-rows named header in omega (arith, length-map rows lineOf)
+
+  pub spelt-no-fault : {number : ℕ} → FirstFault (linesOf (textOf rows)) number → ⊥
+  spelt-no-fault {number} fault = no-fault (subst (λ (ls : List (List ℕ)). FirstFault ls number) (text-lines rows) fault)

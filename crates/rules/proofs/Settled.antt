@@ -22,7 +22,8 @@ use Rattle.rules.specs.Table.{mostRows, primitives}
 use Rattle.rules.specs.Verdict.{tableRefusal}
 use Rattle.rules.specs.Refusals.{roomRefusal}
 use Rattle.rules.specs.Text.{TextRow, textOf, tableOf}
-use Rattle.rules.specs.TextForm.{linesOf, RightRow, FirstFault, TextForm, too-long, faulty, spelt}
+use Rattle.rules.specs.TextForm.{linesOf, RightRow, FirstFault, no-header, no-row, no-end}
+use Rattle.rules.specs.TextForm.{TextForm, too-long, faulty, spelt}
 use Rattle.rules.specs.Told.{refused, wrote, tell}
 use Rattle.rules.specs.Outcome.{over, leave}
 use Rattle.rules.specs.Products.{products}
@@ -32,7 +33,7 @@ use Rattle.rules.specs.ListCalls.{zoneList, makeRefusal, ListMade, ListL
 use Rattle.rules.specs.TextCalls.{tableRead, formRefusal, readRefusal, TextRead, tableText, writeRefusal, TextWritten}
 use Rattle.rules.specs.Listing.{fullRange, listingRoom, printed, ZoneListed}
 use Rattle.rules.proofs.Told.{checked-once, located-once, searched-once, written-once, refused-some}
-use Rattle.rules.proofs.Lines.{text-once, spelt-right}
+use Rattle.rules.proofs.Lines.{text-once, header-rows, spelt-no-fault}
 
 -- ---- calls that only answer
 
@@ -62,22 +63,28 @@ text-written-settled {r = r} {s = s} p q = (written-once r s (p .answer ∙ sym 
 
 -- ---- a text stands in one way only
 
-fault-first : {lines : List (List ℕ)} {m n : ℕ} (a : FirstFault lines m) (b : FirstFault lines n) → a .others < b .others → ⊥
-fault-first a b l = a .wrong (b .right (a .others) l)
-
 fault-once : {lines : List (List ℕ)} {m n : ℕ} → FirstFault lines m → FirstFault lines n → m ≡ n
-fault-once {m = m} {n = n} a b = go (decLt (a .others) (b .others)) (decLt (b .others) (a .others))
+fault-once (no-header e none) (no-header f none′) = e ∙ sym f
+fault-once (no-header e none) (no-row rows k f named right l wrong) = absurd (none rows named)
+fault-once (no-header e none) (no-end rows f named right more) = absurd (none rows named)
+fault-once (no-row rows k e named right l wrong) (no-header f none) = absurd (none rows named)
+fault-once {m = m} {n = n} (no-row a j e named right l wrong) (no-row b k f named′ right′ l′ wrong′) = go (decLt j k) (decLt k j)
   where
-    go : Dec (a .others < b .others) → Dec (b .others < a .others) → m ≡ n
-    go (yes l) d = absurd (fault-first a b l)
-    go (no l) (yes g) = absurd (fault-first b a g)
-    go (no l) (no g) = omega (arith, a .counted, b .counted)
+    go : Dec (j < k) → Dec (k < j) → m ≡ n
+    go (yes h) d = absurd (wrong (right′ j h))
+    go (no h) (yes g) = absurd (wrong′ (right k g))
+    go (no h) (no g) = omega (arith, e, f)
+fault-once (no-row a k e named right l wrong) (no-end b f named′ right′ more) =
+    let same = header-rows named named′ in absurd (wrong (right′ k (omega arith)))
+fault-once (no-end rows e named right more) (no-header f none) = absurd (none rows named)
+fault-once (no-end a e named right more) (no-row b k f named′ right′ l wrong) =
+    let same = header-rows named named′ in absurd (wrong (right k (omega arith)))
+fault-once (no-end a e named right more) (no-end b f named′ right′ more′) = let same = header-rows named named′ in omega (arith, e, f)
 
-spelt-no-fault : (rows : List TextRow) → 1 ≤ length rows → length rows ≤ mostRows → All RightRow rows → {text : List ℕ} → text ≡ textOf rows
+spelt-not-faulty : (rows : List TextRow) → 1 ≤ length rows → length rows ≤ mostRows → All RightRow rows → {text : List ℕ} → text ≡ textOf rows
     → {line : ℕ} → FirstFault (linesOf text) line → ⊥
-spelt-no-fault rows some-row not-over right is {line = line} fault =
-    let f : FirstFault (linesOf (textOf rows)) line = subst (λ (bytes : List ℕ). FirstFault (linesOf bytes) line) is fault in
-    f .wrong (spelt-right rows some-row not-over right (f .others))
+spelt-not-faulty rows some-row not-over right is {line = line} fault =
+    spelt-no-fault rows some-row not-over right (subst (λ (bytes : List ℕ). FirstFault (linesOf bytes) line) is fault)
 
 pub form-once : {text : List ℕ} (f g : TextForm text) → (formRefusal f ≡ formRefusal g) × (tableRead f ≡ tableRead g)
 form-once (too-long l) (too-long m) = (refl, refl)
@@ -85,9 +92,9 @@ form-once (too-long l) (faulty n short fault) = absurd (omega arith)
 form-once (too-long l) (spelt rows short some-row not-over right is) = absurd (omega arith)
 form-once (faulty m short fault) (too-long l) = absurd (omega arith)
 form-once (faulty m short fault) (faulty n short′ fault′) = (ap (λ (line : ℕ). some (record { number = 13; value = line })) (fault-once fault fault′), refl)
-form-once (faulty m short fault) (spelt rows short′ some-row not-over right is) = absurd (spelt-no-fault rows some-row not-over right is fault)
+form-once (faulty m short fault) (spelt rows short′ some-row not-over right is) = absurd (spelt-not-faulty rows some-row not-over right is fault)
 form-once (spelt rows short some-row not-over right is) (too-long l) = absurd (omega arith)
-form-once (spelt rows short some-row not-over right is) (faulty n short′ fault) = absurd (spelt-no-fault rows some-row not-over right is fault)
+form-once (spelt rows short some-row not-over right is) (faulty n short′ fault) = absurd (spelt-not-faulty rows some-row not-over right is fault)
 form-once (spelt rows short some-row not-over right is) (spelt rows′ short′ some-row′ not-over′ right′ is′) = (refl, ap tableOf (text-once rows rows′ right right′ (sym is ∙ is′)))
 
 pub text-read-settled : {text : List ℕ} {before a b : List ℤ} {r s : Written} → TextRead text before a r → TextRead text before b s → (r ≡ s) × (a ≡ b)

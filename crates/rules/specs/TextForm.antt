@@ -1,5 +1,5 @@
 -- Section 11 of docs/RULES.md: which texts are right, and the first faulty line of one that is not (13).
-use Prim.Native.Nat.{ℕ, zero, suc, _≤_, _<_}
+use Prim.Native.Nat.{ℕ, suc, _+_, _≤_, _<_}
 use mathlib.Core.Path.{_≡_}
 use mathlib.Core.List.{List, [], _∷_}
 use lib.Dec.{eqb}
@@ -48,18 +48,20 @@ pub record RightLine (line : List ℕ) : Type 0 where
 abbrev pub lineAfter : List (List ℕ) → ℕ → List ℕ
 lineAfter lines k = getD lines k []
 
--- that line is as the form wants it: the header, then as many rows as it names, then nothing
-abbrev pub RightAfter : List (List ℕ) → ℕ → Type 0
-RightAfter lines zero = (rows : ℕ) × RightHeader (lineAfter lines 0) rows
-RightAfter lines (suc k) =
-    (rows : ℕ) → RightHeader (lineAfter lines 0) rows → (k < rows → RightLine (lineAfter lines (suc k))) × (rows ≤ k → length lines ≤ suc k)
+-- the lines of the first k rows are right
+abbrev pub RightRows : List (List ℕ) → ℕ → Type 0
+RightRows lines k = (j : ℕ) → j < k → RightLine (lineAfter lines (suc j))
 
--- lines are numbered from 1
-pub record FirstFault (lines : List (List ℕ)) (number : ℕ) : Type 0 where
-  pub others : ℕ
-  pub counted : number ≡ suc others
-  pub right : (k : ℕ) → k < others → RightAfter lines k
-  pub wrong : RightAfter lines others → ⊥
+-- The form wants a header, then as many rows as it names, then nothing. Lines are numbered from 1; the first one that is not so is line `number`.
+pub data FirstFault (lines : List (List ℕ)) (number : ℕ) : Type 0 where
+  -- line 1 is no header
+  no-header : number ≡ 1 → ((rows : ℕ) → RightHeader (lineAfter lines 0) rows → ⊥) → FirstFault lines number
+  -- k rows are right, and one more should follow, but the next line is no row, or is missing
+  no-row : (rows k : ℕ) → number ≡ k + 2 → RightHeader (lineAfter lines 0) rows → RightRows lines k → k < rows
+      → (RightLine (lineAfter lines (suc k)) → ⊥) → FirstFault lines number
+  -- all rows are right, and a line follows them
+  no-end : (rows : ℕ) → number ≡ rows + 2 → RightHeader (lineAfter lines 0) rows → RightRows lines rows → suc rows < length lines
+      → FirstFault lines number
 
 -- how a text stands: too long, faulty from a line on, or the text of rows that it then spells
 pub data TextForm (text : List ℕ) : Type 0 where

@@ -10,8 +10,8 @@ use lib.ListN.{length, getD, drop, length-append, length-map, length-drop}
 use lib.Seq.{getD-append-add}
 use Rattle.ground.specs.Tests.{if_then_else_}
 use Rattle.rules.specs.Text.{lineFeed, headerLine, lineOf}
-use Rattle.rules.specs.TextForm.{prepended, linesOf, RightHeader, lineAfter, RightAfter, FirstFault}
-use Rattle.rules.proofs.Lines.{begun-lines, begun-right}
+use Rattle.rules.specs.TextForm.{prepended, linesOf, RightHeader, lineAfter, RightRows, FirstFault, no-header, no-row, no-end}
+use Rattle.rules.proofs.Lines.{begun-lines, begun-rows}
 use Rattle.text.specs.Reading.{RightCount, ReadsHeader, ReadsLine, Begun}
 use Rattle.text.proofs.ReadPieces.{none-there}
 
@@ -43,15 +43,11 @@ some-line (b ∷ bs) h = go (eqb b lineFeed) (linesOf bs)
 -- ---- the first line is faulty
 
 pub header-fault : {text : List ℕ} {right : Bool} {rows next : ℕ} → ReadsHeader text right rows next → right ≡ false → FirstFault (linesOf text) 1
-header-fault {text} r h = record {
-  others = 0;
-  counted = refl;
-  right = λ k l. absurd (omega arith);
-  wrong = λ line.
-      let first = first-line text in
-      let count : RightCount (line .0) = record { some-row = line .1 .some-row; not-over = line .1 .not-over } in
-      none-there r (line .0) (first .0) count tt (first .1 ∙ ap (λ (bytes : List ℕ). bytes ++ first .0) (line .1 .is)) h;
-}
+header-fault {text} r h =
+    let first = first-line text in
+    no-header refl (λ rows named.
+        let count : RightCount rows = record { some-row = named .some-row; not-over = named .not-over } in
+        none-there r rows (first .0) count tt (first .1 ∙ ap (λ (bytes : List ℕ). bytes ++ first .0) (named .is)) h)
 
 -- ---- a header, and some rows after it
 
@@ -65,10 +61,8 @@ module _ {text : List ℕ} {n at done : ℕ} {words : List ℤ} (count : RightCo
   header-is : RightHeader (lineAfter (linesOf text) 0) n
   header-is = record { some-row = count .some-row; not-over = count .not-over; is = ap (λ (ls : List (List ℕ)). lineAfter ls 0) lines-are }
 
-  right-so-far : done ≤ n → (k : ℕ) → k ≤ done → RightAfter (linesOf text) k
-  right-so-far few k l =
-      subst (λ (ls : List (List ℕ)). RightAfter ls k) (sym lines-are)
-      (begun-right n (count .some-row) (count .not-over) (b .rows) (b .right) more (omega (arith, b .counted)) k (omega (arith, b .counted)))
+  rows-so-far : RightRows (linesOf text) done
+  rows-so-far = subst (RightRows (linesOf text)) (b .counted) (subst (λ (ls : List (List ℕ)). RightRows ls (length (b .rows))) (sym lines-are) (begun-rows n (b .rows) more (b .right)))
 
   -- what stands at the position is the next line
   line-here : lineAfter (linesOf text) (suc done) ≡ lineAfter more 0
@@ -81,26 +75,15 @@ module _ {text : List ℕ} {n at done : ℕ} {words : List ℤ} (count : RightCo
   -- a row is missing there
   pub row-fault : done < n → {before after : List ℤ} {place : ℕ} {right : Bool} {next : ℕ} → ReadsLine text at before place after right next
       → right ≡ false → FirstFault (linesOf text) (done + 2)
-  row-fault l r h = record {
-    others = suc done;
-    counted = omega arith;
-    right = λ k g. right-so-far (omega arith) k (omega arith);
-    wrong = λ line.
-        let here = line n header-is .0 l in
-        let first = first-line (drop at text) in
-        let stands = first .1 ∙ ap (λ (bytes : List ℕ). bytes ++ first .0) (sym line-here ∙ here .is) in
-        none-there (r .reads) (here .row) (first .0) (here .right) tt stands h;
-  }
+  row-fault l r h = no-row n done refl header-is rows-so-far l (λ here.
+      let first = first-line (drop at text) in
+      let stands = first .1 ∙ ap (λ (bytes : List ℕ). bytes ++ first .0) (sym line-here ∙ here .is) in
+      none-there (r .reads) (here .row) (first .0) (here .right) tt stands h)
 
   -- something stands after the last row
   pub rest-fault : done ≡ n → at < length text → FirstFault (linesOf text) (n + 2)
-  rest-fault e l = record {
-    others = suc n;
-    counted = omega arith;
-    right = λ k g. right-so-far (omega arith) k (omega arith);
-    wrong = λ line.
-        let most : length (linesOf text) ≤ suc n = line n header-is .1 (omega arith) in
-        let some = some-line (drop at text) (omega (arith, length-drop at text)) in
-        let all = ap length lines-are in
-        omega (arith, most, some, all, b .counted, length-map (b .rows) lineOf, length-append (map lineOf (b .rows)) more);
-  }
+  rest-fault e l =
+      let some = some-line (drop at text) (omega (arith, length-drop at text)) in
+      let lines = ap length lines-are in
+      no-end n refl header-is (subst (RightRows (linesOf text)) e rows-so-far)
+      (omega (arith, some, lines, b .counted, length-map (b .rows) lineOf, length-append (map lineOf (b .rows)) more))
