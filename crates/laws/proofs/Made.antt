@@ -21,12 +21,12 @@ use Rattle.ground.proofs.Masks.{has, Within, within-self, within-left, within-h
 use Rattle.rules.specs.declared.Product.{Product}
 use Rattle.rules.specs.declared.Refusal.{Refusal}
 use Rattle.rules.specs.declared.Window.{Window}
-use Rattle.rules.specs.Boxes.{windowBox}
+use Rattle.rules.specs.Boxes.{windowBox, share}
 use Rattle.rules.specs.Choices.{inOf, outOf, expansion}
 use Rattle.rules.specs.ListCalls.{mostChoices, windowRefusal, zoneList}
 use Rattle.rules.specs.ListFaults.{boundsRefusals, plainRight, cutsRight, productRefusals, listRefusal, primitivesRefusal}
 use Rattle.rules.specs.ListWords.{raised, lowered, word, listOf, listWindow, productCount, placeOf, productAt}
-use Rattle.rules.specs.Products.{products}
+use Rattle.rules.specs.Products.{boxOf, productBox, products}
 use Rattle.rules.specs.Ranges.{within, columns}
 use Rattle.rules.specs.Refusals.{refuseIf, refuseUnless}
 use Rattle.rules.specs.Table.{primitives, rowCount}
@@ -39,6 +39,7 @@ use Rattle.laws.proofs.Apart.{mask-in-table, table-apart, few-primitive
 use Rattle.laws.proofs.Listed.{listed}
 use Rattle.laws.proofs.Listing.{listing-length}
 use Rattle.laws.proofs.Promise.{plain-in-table, products-are-listing}
+use Rattle.laws.proofs.Reach.{places-where}
 use Rattle.laws.proofs.Ways.{choices-ways, ways-count, ways-kth, kth-within, by-part, place-left, place-right}
 use Rattle.laws.proofs.Windows.{Bounds, window-right, window-filled}
 
@@ -248,7 +249,10 @@ module _ (t : List ℤ) (w : Window) (S : Sound t) (fine : windowRefusal w ≡ n
   product-right : (k : ℕ) → k < productCount buffer → Right (length (primitives t)) (productAt buffer k)
   product-right k l =
       let f = holds-products .from k l in
-      subst (Right (length (primitives t))) (sym (f .3)) (fewer-cuts (length (primitives t)) (choice t (f .0)) _ (choice-right t S (f .0) (f .1)))
+      let c = choice t (f .0) in
+      let cut = places-where (λ s. share (boxOf s) (productBox w (primitives t) c)) (primitives t) (c .cuts) in
+      let is = f .3 ∙ ap (λ (cuts : ℕ). record { plain = c .plain; cuts = cuts }) cut in
+      subst (Right (length (primitives t))) (sym is) (fewer-cuts (length (primitives t)) c _ (choice-right t S (f .0) (f .1)))
 
   product-passes : (k : ℕ) → k < productCount buffer → All Passes (productRefusals buffer k)
   product-passes k l =

@@ -5,10 +5,9 @@ use mathlib.Core.Bool.{Bool, true, false, not, _&&_, _||_, and-false}
 use mathlib.Core.List.{List, [], _∷_, map, map-id}
 use mathlib.Core.Option.{Option, some}
 use mathlib.Core.Path.{_≡_, refl, sym, ap, ap₂, subst, _∙_}
-use lib.Bits.{bitAnd}
 use lib.IntN.{ℤ}
 use lib.Signed.{leZ}
-use Rattle.ground.specs.Bits.{odd, selected, placesOf}
+use Rattle.ground.specs.Bits.{odd, selected, placesWhere}
 use Rattle.ground.specs.Lists.{All, below, all, any, keepIf}
 use Rattle.ground.specs.Tests.{if_then_else_}
 use Rattle.ground.proofs.Branches.{and-left, and-right}
@@ -33,7 +32,7 @@ use Rattle.laws.specs.Sound.{solidRight, RowRight, Sound}
 use Rattle.laws.proofs.Agreement.{box-holds}
 use Rattle.laws.proofs.Firsts.{same-equal}
 use Rattle.laws.proofs.Kept.{any-made}
-use Rattle.laws.proofs.Reach.{digit-odd, digit-half, and-digit}
+use Rattle.laws.proofs.Reach.{digit-odd, digit-half}
 use Rattle.laws.proofs.Spaces.{implied-left, greater-most, lesser-least, filled, by-axis, filled-axes, and-swap, axes-swap, cut}
 
 -- ---- a point in boxes
@@ -81,19 +80,18 @@ module _ {A : Type 0} where
       go true others = (h .0, others)
       go false others = others
 
-  -- a set cut to the places at which a test holds selects what the test keeps
-  selected-places : (test : A → Bool) (xs : List A) (set : ℕ) → selected (bitAnd set (placesOf test xs)) xs ≡ keepIf test (selected set xs)
-  unfolding selected placesOf keepIf
+  -- the places of a set at which a test holds select what the test keeps
+  selected-places : (test : A → Bool) (xs : List A) (set : ℕ) → selected (placesWhere test set xs) xs ≡ keepIf test (selected set xs)
+  unfolding selected placesWhere keepIf
   selected-places test [] set = refl
   selected-places test (x ∷ xs) set =
-      let more = bitAnd (set / 2) (placesOf test xs) in
+      let more = placesWhere test (set / 2) xs in
       let first = odd set && test x in
-      ap (λ (n : ℕ). if odd n then x ∷ selected (n / 2) xs else selected (n / 2) xs) (and-digit set (test x) (placesOf test xs))
-      ∙ ap₂ (λ (o : Bool) (n : ℕ). if o then x ∷ selected n xs else selected n xs) (digit-odd first more) (digit-half first more)
+      ap₂ (λ (o : Bool) (n : ℕ). if o then x ∷ selected n xs else selected n xs) (digit-odd first more) (digit-half first more)
       ∙ go (odd set) (selected-places test xs (set / 2))
     where
-      go : (o : Bool) → selected (bitAnd (set / 2) (placesOf test xs)) xs ≡ keepIf test (selected (set / 2) xs)
-          → (if o && test x then x ∷ selected (bitAnd (set / 2) (placesOf test xs)) xs else selected (bitAnd (set / 2) (placesOf test xs)) xs)
+      go : (o : Bool) → selected (placesWhere test (set / 2) xs) xs ≡ keepIf test (selected (set / 2) xs)
+          → (if o && test x then x ∷ selected (placesWhere test (set / 2) xs) xs else selected (placesWhere test (set / 2) xs) xs)
           ≡ keepIf test (if o then x ∷ selected (set / 2) xs else selected (set / 2) xs)
       go true others = λ i. if test x then x ∷ others i else others i
       go false others = others

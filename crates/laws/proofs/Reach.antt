@@ -12,7 +12,7 @@ use lib.Dec.{eqb}
 use lib.ListN.{length, getD, take, drop}
 use lib.Pow.{shr-shr}
 use lib.Seq.{take-suc, drop-cons, drop-length, length-take-le}
-use Rattle.ground.specs.Bits.{odd, selected, placesOf}
+use Rattle.ground.specs.Bits.{odd, selected, placesOf, placesWhere}
 use Rattle.ground.specs.Lists.{All, all, any, keepIf}
 use Rattle.ground.specs.Tests.{if_then_else_}
 use Rattle.ground.proofs.Lists.{all-map}
@@ -61,6 +61,12 @@ eqb-same a b c d f g = go (eqb a b) refl
     go false e = sym (ne-eqb c d (λ k. eqb-false a b e (g k)))
 
 module _ {A : Type 0} (test : A → Bool) where
+  pub places-where : (xs : List A) (set : ℕ) → placesWhere test set xs ≡ bitAnd set (placesOf test xs)
+  unfolding placesOf placesWhere
+  places-where [] set = sym (and-zero-r set)
+  places-where (x ∷ xs) set =
+      ap (λ (n : ℕ). digit (odd set && test x) + 2 * n) (places-where xs (set / 2)) ∙ sym (and-digit set (test x) (placesOf test xs))
+
   pub has-places : (d : A) (xs : List A) (i : ℕ) → i < length xs → has i (placesOf test xs) ≡ test (getD xs i d)
   unfolding has placesOf
   has-places d [] i l = absurd (not-suc-le-zero l)
@@ -214,7 +220,9 @@ module _ (w : Window) (solids : List Primitive) where
       ∙ (λ i. placesOf (λ s. sym (share-all boxOf (windowBox w) (boxOf s) (selected (c .plain) solids) h) i) solids)
 
   pub trimmed-pruned : (c : Product) → stays w solids c ≡ true → trimmed w solids c ≡ pruned (aliveIn w solids) (reachIn w solids) c
-  trimmed-pruned c h = ap (λ (r : ℕ). record { plain = c .plain; cuts = bitAnd (c .cuts) r }) (sym (reach-exact c h))
+  trimmed-pruned c h =
+      ap (λ (cuts : ℕ). record { plain = c .plain; cuts = cuts })
+      (places-where (λ s. share (boxOf s) (productBox w solids c)) solids (c .cuts) ∙ ap (bitAnd (c .cuts)) (sym (reach-exact c h)))
 
   module _ (filled : empty (windowBox w) ≡ false) where
     -- the box is there just if each chosen primitive is in reach

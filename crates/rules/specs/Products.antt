@@ -1,10 +1,9 @@
 -- Section 7 of docs/RULES.md: pruning. What stays of the choices in a window: the products of a zone there.
 use mathlib.Core.Bool.{Bool, not, _&&_}
 use mathlib.Core.List.{List, [], _∷_, map, foldr}
-use lib.Bits.{bitAnd}
 use lib.Dec.{eqb}
 use lib.IntN.{_+ℤ_, _-ℤ_}
-use Rattle.ground.specs.Bits.{selected, placesOf}
+use Rattle.ground.specs.Bits.{selected, placesWhere}
 use Rattle.ground.specs.Lists.{keepIf}
 use Rattle.rules.specs.declared.Primitive.{Primitive}
 use Rattle.rules.specs.declared.Primitive.the-variants as primitive
@@ -35,9 +34,9 @@ module _ (w : Window) (solids : List Primitive) where
   abbrev pub stays : Product → Bool
   stays c = not (empty (productBox c))
 
-  -- in one that stays, a cut whose box shares no point with the product's box is dropped
+  -- one that stays keeps those of its cuts whose boxes share a point with its box
   abbrev pub trimmed : Product → Product
-  trimmed c = record { plain = c .plain; cuts = bitAnd (c .cuts) (placesOf (λ s. share (boxOf s) (productBox c)) solids) }
+  trimmed c = record { plain = c .plain; cuts = placesWhere (λ s. share (boxOf s) (productBox c)) (c .cuts) solids }
 
 abbrev pub same : Product → Product → Bool
 same a b = eqb (a .plain) (b .plain) && eqb (a .cuts) (b .cuts)
