@@ -18,7 +18,7 @@ use Rattle.rules.specs.declared.Primitive.{Primitive}
 use Rattle.rules.specs.declared.Row.{Row}
 use Rattle.rules.specs.declared.Row.the-variants.{Solid, Union, Inter, Diff}
 use Rattle.rules.specs.Table.{rowCount, rowAt, solidOf, primitivesBefore}
-use Rattle.rules.specs.Tree.{grown, treeAt}
+use Rattle.rules.specs.Tree.{rowTree, treeAt}
 use Rattle.laws.specs.Sound.{Sound}
 use Rattle.laws.specs.Plans.{Plan, either, both, plan, count}
 use Rattle.laws.proofs.Apart.{next-before}
@@ -32,7 +32,7 @@ use Rattle.choice.specs.Steps.{sideOf, planAt, IsStep, NumberedTo, Numbe
 
 module _ {t : List ℤ} (S : Sound t) {row : ℕ} (l : row < rowCount t) {x : Row} (e : some x ≡ rowAt t row) where
   on-side : {r : Row} → x ≡ r → {within side : Bool} → within ≡ side
-      → planAt t row within ≡ plan (sideOf side) (grown (length (primitivesBefore t row)) (treeAt t) (some r))
+      → planAt t row within ≡ plan (sideOf side) (rowTree (length (primitivesBefore t row)) (treeAt t) (some r))
   unfolding planAt
   on-side g w = λ i. plan (sideOf (w i)) (read-tree S l e g i)
 

@@ -22,7 +22,7 @@ use Rattle.rules.specs.declared.Primitive.{Primitive}
 use Rattle.rules.specs.declared.Row.{Row}
 use Rattle.rules.specs.declared.Row.the-variants.{Solid, Union, Inter, Diff}
 use Rattle.rules.specs.Table.{rowCount, rowAt, solidOf, primitivesBefore, primitives}
-use Rattle.rules.specs.Tree.{Tree, solid, union, inter, diff, grown, treeAt}
+use Rattle.rules.specs.Tree.{Tree, solid, union, inter, diff, rowTree, treeAt}
 use Rattle.rules.specs.Choices.{Side, inOf, outOf}
 use Rattle.rules.specs.Verdict.{childrenOf}
 use Rattle.laws.specs.Plans.{plan, mask, Apart}
@@ -190,8 +190,8 @@ module _ (t : List ℤ) (S : Sound t) where
   seen : (row : ℕ) → row < rowCount t → Seen row
   seen row l = let s = S .rows row l in go (s .reads) (s .is) (s .right)
     where
-      tree : (r : Row) → rowAt t row ≡ some r → treeAt t row ≡ grown (before row) (treeAt t) (some r)
-      tree r e = tree-row t S row l ∙ ap (grown (before row) (treeAt t)) e
+      tree : (r : Row) → rowAt t row ≡ some r → treeAt t row ≡ rowTree (before row) (treeAt t) (some r)
+      tree r e = tree-row t S row l ∙ ap (rowTree (before row) (treeAt t)) e
 
       joins : (a b : ℕ) (whole : Tree) → treeAt t row ≡ whole → Joins (treeAt t a) (treeAt t b) whole → Joins (treeAt t a) (treeAt t b) (treeAt t row)
       joins a b whole e j = subst (Joins (treeAt t a) (treeAt t b)) (sym e) j

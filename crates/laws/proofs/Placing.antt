@@ -15,7 +15,7 @@ use Rattle.rules.specs.declared.Primitive.{Primitive}
 use Rattle.rules.specs.declared.Row.{Row}
 use Rattle.rules.specs.declared.Row.the-variants.{Solid, Union, Inter, Diff}
 use Rattle.rules.specs.Table.{rowCount, rowAt, solidOf, primitivesBefore, primitives}
-use Rattle.rules.specs.Tree.{nowhere, grown, treeAt, treeOf}
+use Rattle.rules.specs.Tree.{nowhere, rowTree, treeAt, treeOf}
 use Rattle.rules.specs.Inside.{inside}
 use Rattle.rules.specs.Choices.{choices, inOf}
 use Rattle.rules.specs.ListInside.{insideProduct}
@@ -51,7 +51,7 @@ module _ (t : List ℤ) where
 
   module _ (S : Sound t) where
     placed-by : (row : ℕ) → row < rowCount t → (r : Row) → rowAt t row ≡ some r → RowRight row r → ((a : ℕ) → a < row → Placed (primitives t) (treeAt t a))
-        → Placed (primitives t) (grown (length (primitivesBefore t row)) (treeAt t) (some r))
+        → Placed (primitives t) (rowTree (length (primitivesBefore t row)) (treeAt t) (some r))
     unfolding Placed
     placed-by row l (Solid s) e right earlier = (number-below t S row l e, at-number row l e)
     placed-by row l (Union a b) e right earlier = (earlier a (right .0), earlier b (right .1))
@@ -62,7 +62,7 @@ module _ (t : List ℤ) where
     placed-to zero row h l = absurd (omega arith)
     placed-to (suc n) row h l =
         let s = S .rows row l in
-        subst (Placed (primitives t)) (sym (tree-row t S row l ∙ ap (grown (length (primitivesBefore t row)) (treeAt t)) (s .is)))
+        subst (Placed (primitives t)) (sym (tree-row t S row l ∙ ap (rowTree (length (primitivesBefore t row)) (treeAt t)) (s .is)))
         (placed-by row l (s .reads) (s .is) (s .right) (λ a k. placed-to n a (omega arith) (omega arith)))
 
     pub tree-placed : Placed (primitives t) (treeOf t)

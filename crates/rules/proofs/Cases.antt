@@ -10,7 +10,7 @@ use Rattle.rules.specs.declared.Product.{Product}
 use Rattle.rules.specs.declared.Window.{Window}
 use Rattle.rules.specs.Table.{primitives}
 use Rattle.rules.specs.Verdict.{tableRefusal}
-use Rattle.rules.specs.Tree.{treeTo, treeOf}
+use Rattle.rules.specs.Tree.{trees, treeOf}
 use Rattle.rules.specs.Inside.{inside}
 use Rattle.rules.specs.Choices.{choices, _crossed-with_, expansion}
 use Rattle.rules.specs.Products.{firsts, products}
@@ -81,5 +81,5 @@ cases =
     ∷ []
 
 pub cases-hold : map (λ (c : Case). c .says) cases ≡ map (λ (c : Case). c .expected) cases
-unfolding tableRefusal treeTo inside choices _crossed-with_ firsts products from all keepIf countIf findIf firstOf selected placesWhere flatMap
+unfolding tableRefusal trees inside choices _crossed-with_ firsts products from all keepIf countIf findIf firstOf selected placesWhere flatMap
 cases-hold = refl

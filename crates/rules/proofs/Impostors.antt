@@ -25,7 +25,7 @@ use Rattle.rules.specs.declared.Written.the-variants as written
 use Rattle.rules.specs.Table.{primitives}
 use Rattle.rules.specs.Verdict.{tableRefusal}
 use Rattle.rules.specs.Tree as tree
-use Rattle.rules.specs.Tree.{Tree, solid, treeTo, treeOf}
+use Rattle.rules.specs.Tree.{Tree, solid, trees, treeOf}
 use Rattle.rules.specs.Inside.{inside}
 use Rattle.rules.specs.Choices.{choices, inOf, outOf, joined, _crossed-with_}
 use Rattle.rules.specs.Products.{stays, trimmed, firsts, products}
@@ -70,15 +70,15 @@ unfolding tableRefusal from all countIf findIf firstOf flatMap
 right-check = record { answer = refl }
 
 pub right-tree-point : TreeLocated q (at 8 0) located.Inside
-unfolding tableRefusal treeTo inside from all countIf findIf firstOf flatMap
+unfolding tableRefusal trees inside from all countIf findIf firstOf flatMap
 right-tree-point = record { answer = refl }
 
 pub right-tree-search : TreeSearched q three from19 (searched.Hit 1 2)
-unfolding tableRefusal treeTo inside firstInside insideCount from all any countIf findIf firstOf flatMap
+unfolding tableRefusal trees inside firstInside insideCount from all any countIf findIf firstOf flatMap
 right-tree-search = record { answer = refl }
 
 pub right-make : ListMade q window room qList (written.Wrote 12)
-unfolding tableRefusal treeTo choices _crossed-with_ firsts products zoneList from all keepIf countIf findIf firstOf selected placesWhere flatMap
+unfolding tableRefusal trees choices _crossed-with_ firsts products zoneList from all keepIf countIf findIf firstOf selected placesWhere flatMap
 right-make = record { answer = refl; buffer = refl }
 
 pub right-list-point : ListLocated q qList (at 8 0) located.Inside
@@ -167,7 +167,7 @@ abbrev leaving : List ℤ
 leaving = nought ∷ pos 50 ∷ pos 50 ∷ []
 
 pub right-tree-leaving : TreeSearched q leaving from19 searched.Clear
-unfolding tableRefusal treeTo inside firstInside insideCount from all any countIf findIf firstOf flatMap
+unfolding tableRefusal trees inside firstInside insideCount from all any countIf findIf firstOf flatMap
 right-tree-leaving = record { answer = refl }
 
 pub right-list-leaving : ListSearched q qList leaving from19 searched.Clear
@@ -219,7 +219,7 @@ abbrev cutFar : List ℤ
 cutFar = box nought (pos 9) ++ (box nought (pos 9) ++ (union 0 1 ++ (box (pos 40) (pos 49) ++ diff 2 3)))
 
 pub right-cutFar : ListMade cutFar window room (listHeader 2 3 ++ (1 ∷ 0 ∷ 2 ∷ 0 ∷ [])) (written.Wrote 12)
-unfolding tableRefusal treeTo choices _crossed-with_ firsts products zoneList from all keepIf countIf findIf firstOf selected placesWhere flatMap
+unfolding tableRefusal trees choices _crossed-with_ firsts products zoneList from all keepIf countIf findIf firstOf selected placesWhere flatMap
 right-cutFar = record { answer = refl; buffer = refl }
 
 abbrev pub firstPruned : Window → List Primitive → List Product → List Product
@@ -231,11 +231,11 @@ rawList t w = listOf w (length (primitives t)) (firstPruned w (primitives t) (ke
 
 -- its second product keeps the cut
 pub raw-cutFar : rawList cutFar window ≡ listHeader 2 3 ++ (1 ∷ 0 ∷ 2 ∷ 4 ∷ [])
-unfolding treeTo choices _crossed-with_ from keepIf findIf selected placesWhere flatMap
+unfolding trees choices _crossed-with_ from keepIf findIf selected placesWhere flatMap
 raw-cutFar = refl
 
 pub others-raw : (r : Written) → ListMade cutFar window room (over (rawList cutFar window) room) r → ⊥
-unfolding treeTo choices _crossed-with_ from keepIf findIf selected placesWhere flatMap
+unfolding trees choices _crossed-with_ from keepIf findIf selected placesWhere flatMap
 others-raw r h = let e : _≡_ {A = ℕ} 4 0 = ap (λ (list : List ℕ). getD list 11 0) (list-made-settled h right-cutFar .1) in omega arith
 
 -- ---- one that tests a cut against the box of its left subtree: in A ∩ (B - C) the cut C meets B, and misses what A leaves of it
@@ -244,7 +244,7 @@ abbrev barred : List ℤ
 barred = box (pos 5) (pos 9) ++ (box nought (pos 9) ++ (box nought (pos 3) ++ (diff 1 2 ++ inter 0 3)))
 
 pub right-barred : ListMade barred window room (listHeader 1 3 ++ (3 ∷ 0 ∷ 7 ∷ 7 ∷ [])) (written.Wrote 10)
-unfolding tableRefusal treeTo choices _crossed-with_ firsts products zoneList from all keepIf countIf findIf firstOf selected placesWhere flatMap
+unfolding tableRefusal trees choices _crossed-with_ firsts products zoneList from all keepIf countIf findIf firstOf selected placesWhere flatMap
 right-barred = record { answer = refl; buffer = refl }
 
 -- the choices in a tree; those of a difference keep, of the right side's cuts, the ones that meet the box of the left side's choice
@@ -263,9 +263,9 @@ leftList t w = listOf w (length (primitives t)) (firsts (keepIf (stays w (primit
 
 -- its product keeps the cut
 pub left-barred : leftList barred window ≡ listHeader 1 3 ++ (3 ∷ 4 ∷ [])
-unfolding treeTo choices cutAtLeft _crossed-with_ firsts from keepIf findIf selected placesWhere flatMap
+unfolding trees choices cutAtLeft _crossed-with_ firsts from keepIf findIf selected placesWhere flatMap
 left-barred = refl
 
 pub cut-against-left : (r : Written) → ListMade barred window room (over (leftList barred window) room) r → ⊥
-unfolding treeTo choices cutAtLeft _crossed-with_ firsts from keepIf findIf selected placesWhere flatMap
+unfolding trees choices cutAtLeft _crossed-with_ firsts from keepIf findIf selected placesWhere flatMap
 cut-against-left r h = let e : _≡_ {A = ℕ} 4 0 = ap (λ (list : List ℕ). getD list 9 0) (list-made-settled h right-barred .1) in omega arith

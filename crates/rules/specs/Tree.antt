@@ -1,9 +1,9 @@
 -- Section 4 of docs/RULES.md: the tree of solids, and the tree that a table stands for.
 use Prim.Native.Nat.{ℕ, zero, suc, _-_}
-use mathlib.Core.List.{List}
+use mathlib.Core.List.{List, [], _∷_, _++_}
 use mathlib.Core.Option.{Option, none, some}
 use lib.IntN.{ℤ, pos}
-use lib.ListN.{length}
+use lib.ListN.{length, getD}
 use Rattle.rules.specs.declared.Primitive.{Primitive}
 use Rattle.rules.specs.declared.Primitive.the-variants as primitive
 use Rattle.rules.specs.declared.Row.{Row}
@@ -19,21 +19,25 @@ pub data Tree : Type 0 where
 abbrev pub nowhere : Primitive
 nowhere = primitive.Box (record { xlo = pos 1; xhi = pos 0; ylo = pos 1; yhi = pos 0; zlo = pos 1; zhi = pos 0 })
 
--- a row's tree, from its number as a primitive and the trees of its children
-abbrev pub grown : ℕ → (ℕ → Tree) → Option Row → Tree
-grown number child none = solid number nowhere
-grown number child (some (Solid s)) = solid number s
-grown number child (some (Union left right)) = union (child left) (child right)
-grown number child (some (Inter left right)) = inter (child left) (child right)
-grown number child (some (Diff left right)) = diff (child left) (child right)
+-- a row's tree, from its number as a primitive and the trees of the rows that it names
+abbrev pub rowTree : ℕ → (ℕ → Tree) → Option Row → Tree
+rowTree number tree none = solid number nowhere
+rowTree number tree (some (Solid s)) = solid number s
+rowTree number tree (some (Union left right)) = union (tree left) (tree right)
+rowTree number tree (some (Inter left right)) = inter (tree left) (tree right)
+rowTree number tree (some (Diff left right)) = diff (tree left) (tree right)
 
--- children are earlier rows, so the tree of row r is at most r rows deeper than r itself; below that depth nothing is read
-unfoldable pub treeTo : ℕ → List ℤ → ℕ → Tree
-treeTo zero t row = solid 0 nowhere
-treeTo (suc depth) t row = grown (length (primitivesBefore t row)) (treeTo depth t) (rowAt t row)
+-- the tree at a place of a list of trees
+abbrev pub treeIn : List Tree → ℕ → Tree
+treeIn trees row = getD trees row (solid 0 nowhere)
+
+-- the trees of the first n rows, in row order: a row names earlier rows, whose trees are there already
+unfoldable pub trees : List ℤ → ℕ → List Tree
+trees t zero = []
+trees t (suc row) = trees t row ++ (rowTree (length (primitivesBefore t row)) (treeIn (trees t row)) (rowAt t row) ∷ [])
 
 abbrev pub treeAt : List ℤ → ℕ → Tree
-treeAt t row = treeTo (suc row) t row
+treeAt t row = treeIn (trees t (suc row)) row
 
 -- the root is the last row
 abbrev pub treeOf : List ℤ → Tree

@@ -13,7 +13,7 @@ use lib.ListN.{length}
 use Rattle.ground.proofs.Branches.{and-yes, and-no, or-yes, or-no}
 use Rattle.rules.specs.declared.Row.{Row}
 use Rattle.rules.specs.Table.{rowCount, primitivesBefore}
-use Rattle.rules.specs.Tree.{Tree, grown, treeAt}
+use Rattle.rules.specs.Tree.{Tree, rowTree, treeAt}
 use Rattle.rules.specs.Inside.{inside}
 use Rattle.laws.specs.Sound.{RowRight, Sound}
 use Rattle.table.proofs.Rows.{row-there}
@@ -52,7 +52,7 @@ module _ (t : ℕ) (c : row-inside-lts.After-read-row (told t) (row-inside-at t)
   right : RowRight (start .args .row) r
   right = read-right (start .pre .1 .0) (start .pre .1 .1 .0) (c .read-row .ensures) g
 
-  answers : {b : Bool} → b ≡ inside (grown (length (primitivesBefore (start .args .table .now) (start .args .row))) (treeAt (start .args .table .now)) (some r)) (start .args .p)
+  answers : {b : Bool} → b ≡ inside (rowTree (length (primitivesBefore (start .args .table .now) (start .args .row))) (treeAt (start .args .table .now)) (some r)) (start .args .p)
       → b ≡ inside (treeAt (start .args .table .now) (start .args .row)) (start .args .p)
   answers h = h ∙ sym (ap (λ (T : Tree). inside T (start .args .p)) (read-tree (start .pre .1 .0) (start .pre .1 .1 .0) (c .read-row .ensures) g))
 
