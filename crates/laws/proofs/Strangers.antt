@@ -23,7 +23,7 @@ use Rattle.rules.specs.Table.{primitives}
 use Rattle.rules.specs.Told.{refused, tell, toldSearched}
 use Rattle.rules.specs.TreeCalls.{searchTale}
 use Rattle.rules.specs.Verdict.{tableRefusal}
-use Rattle.laws.proofs.Answering.{checks-pass, sampleHeld, sampleRule, held-upto}
+use Rattle.laws.proofs.ListAsTree.{checks-pass, sampleHeld, sampleRule, held-upto}
 use Rattle.laws.proofs.Soundness.{unless-kept}
 
 -- whoever meets the record of the search over a list

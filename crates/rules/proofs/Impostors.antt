@@ -9,7 +9,7 @@ use lib.Dec.{lit≤}
 use lib.IntN.{ℤ, pos, negsuc}
 use lib.ListN.{length, getD, replicate}
 use Rattle.ground.specs.Bits.{selected, placesWhere}
-use Rattle.ground.specs.Lists.{from, all, any, keepIf, countIf, findIf, firstOf}
+use Rattle.ground.specs.Lists.{from, allOf, anyOf, keepIf, countIf, findIf, firstOf}
 use Rattle.rules.specs.declared.Checked.the-variants as checked
 use Rattle.rules.specs.declared.Kind.the-variants.{Box}
 use Rattle.rules.specs.declared.Located.the-variants as located
@@ -66,27 +66,27 @@ abbrev from19 : Place
 from19 = record { first = pos 19; frame = nought }
 
 pub right-check : TableChecked q checked.Sound
-unfolding tableRefusal from all countIf findIf firstOf flatMap
+unfolding tableRefusal from allOf countIf findIf firstOf flatMap
 right-check = record { answer = refl }
 
 pub right-tree-point : TreeLocated q (at 8 0) located.Inside
-unfolding tableRefusal trees inside from all countIf findIf firstOf flatMap
+unfolding tableRefusal trees inside from allOf countIf findIf firstOf flatMap
 right-tree-point = record { answer = refl }
 
 pub right-tree-search : TreeSearched q three from19 (searched.Hit 1 2)
-unfolding tableRefusal trees inside firstInside insideCount from all any countIf findIf firstOf flatMap
+unfolding tableRefusal trees inside firstInside insideCount from allOf anyOf countIf findIf firstOf flatMap
 right-tree-search = record { answer = refl }
 
 pub right-make : ListMade q window room qList (written.Wrote 12)
-unfolding tableRefusal trees choices _crossed-with_ firsts products zoneList from all keepIf countIf findIf firstOf selected placesWhere flatMap
+unfolding tableRefusal trees choices _crossed-with_ firsts products zoneList from allOf keepIf countIf findIf firstOf selected placesWhere flatMap
 right-make = record { answer = refl; buffer = refl }
 
 pub right-list-point : ListLocated q qList (at 8 0) located.Inside
-unfolding tableRefusal listRefusal insideProduct insideList from all any countIf findIf firstOf selected flatMap
+unfolding tableRefusal listRefusal insideProduct insideList from allOf anyOf countIf findIf firstOf selected flatMap
 right-list-point = record { answer = refl }
 
 pub right-list-search : ListSearched q qList three from19 (searched.Hit 1 2)
-unfolding tableRefusal listRefusal insideProduct insideList firstInside insideCount from all any countIf findIf firstOf selected flatMap
+unfolding tableRefusal listRefusal insideProduct insideList firstInside insideCount from allOf anyOf countIf findIf firstOf selected flatMap
 right-list-search = record { answer = refl }
 
 abbrev oneBox : List ℤ
@@ -106,11 +106,11 @@ abbrev tableRoom : List ℤ
 tableRoom = replicate 12 (pos 7)
 
 pub right-write : TextWritten oneBox textRoom boxText (written.Wrote 23)
-unfolding tableRefusal tableText decimalIn from all countIf findIf firstOf flatMap
+unfolding tableRefusal tableText decimalIn from allOf countIf findIf firstOf flatMap
 right-write = record { answer = refl; buffer = refl }
 
 pub right-read : TextRead boxText tableRoom oneBox (written.Wrote 12)
-unfolding tableRefusal decimalIn from all countIf findIf firstOf flatMap
+unfolding tableRefusal decimalIn from allOf countIf findIf firstOf flatMap
 right-read = record {
   form = spelt (boxRow ∷ []) (lit≤ tt) (lit≤ tt) (lit≤ tt) (record { named = refl; fit = omega arith }, tt) refl;
   answer = refl;
@@ -167,11 +167,11 @@ abbrev leaving : List ℤ
 leaving = nought ∷ pos 50 ∷ pos 50 ∷ []
 
 pub right-tree-leaving : TreeSearched q leaving from19 searched.Clear
-unfolding tableRefusal trees inside firstInside insideCount from all any countIf findIf firstOf flatMap
+unfolding tableRefusal trees inside firstInside insideCount from allOf anyOf countIf findIf firstOf flatMap
 right-tree-leaving = record { answer = refl }
 
 pub right-list-leaving : ListSearched q qList leaving from19 searched.Clear
-unfolding tableRefusal listRefusal insideProduct insideList firstInside insideCount from all any countIf findIf firstOf selected flatMap
+unfolding tableRefusal listRefusal insideProduct insideList firstInside insideCount from allOf anyOf countIf findIf firstOf selected flatMap
 right-list-leaving = record { answer = refl }
 
 pub tree-first-sample-only : (r : Searched) → TreeSearched q three from19 r → TreeSearched q leaving from19 r → ⊥
@@ -219,7 +219,7 @@ abbrev cutFar : List ℤ
 cutFar = box nought (pos 9) ++ (box nought (pos 9) ++ (union 0 1 ++ (box (pos 40) (pos 49) ++ diff 2 3)))
 
 pub right-cutFar : ListMade cutFar window room (listHeader 2 3 ++ (1 ∷ 0 ∷ 2 ∷ 0 ∷ [])) (written.Wrote 12)
-unfolding tableRefusal trees choices _crossed-with_ firsts products zoneList from all keepIf countIf findIf firstOf selected placesWhere flatMap
+unfolding tableRefusal trees choices _crossed-with_ firsts products zoneList from allOf keepIf countIf findIf firstOf selected placesWhere flatMap
 right-cutFar = record { answer = refl; buffer = refl }
 
 abbrev pub firstPruned : Window → List Primitive → List Product → List Product
@@ -244,7 +244,7 @@ abbrev barred : List ℤ
 barred = box (pos 5) (pos 9) ++ (box nought (pos 9) ++ (box nought (pos 3) ++ (diff 1 2 ++ inter 0 3)))
 
 pub right-barred : ListMade barred window room (listHeader 1 3 ++ (3 ∷ 0 ∷ 7 ∷ 7 ∷ [])) (written.Wrote 10)
-unfolding tableRefusal trees choices _crossed-with_ firsts products zoneList from all keepIf countIf findIf firstOf selected placesWhere flatMap
+unfolding tableRefusal trees choices _crossed-with_ firsts products zoneList from allOf keepIf countIf findIf firstOf selected placesWhere flatMap
 right-barred = record { answer = refl; buffer = refl }
 
 -- the choices in a tree; those of a difference keep, of the right side's cuts, the ones that meet the box of the left side's choice

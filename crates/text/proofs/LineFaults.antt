@@ -46,8 +46,8 @@ pub header-fault : {text : List ℕ} {right : Bool} {rows next : ℕ} → ReadsH
 header-fault {text} r h =
     let first = first-line text in
     no-header refl (λ rows named.
-        let count : RightCount rows = record { some-row = named .some-row; not-over = named .not-over } in
-        none-there r rows (first .0) count tt (first .1 ∙ ap (λ (bytes : List ℕ). bytes ++ first .0) (named .is)) h)
+    let count : RightCount rows = record { some-row = named .some-row; not-over = named .not-over } in
+    none-there r rows (first .0) count tt (first .1 ∙ ap (λ (bytes : List ℕ). bytes ++ first .0) (named .is)) h)
 
 -- ---- a header, and some rows after it
 
