@@ -146,7 +146,7 @@ fn tell_fallen(cuts: u64) {
 }
 
 // The first way before the k-th that was kept as this product, or k. Each way has two words; if it was not kept they are 0, as no product's are.
-fn earlier(kept: &[u64], k: usize, c: Product) -> usize
+fn first_alike(kept: &[u64], k: usize, c: Product) -> usize
     requires { ⌜ 2 * k ≤ length (now kept) ⌝ }
     ensures { λ r. ⌜ r ≤ k ⌝ }
 {
@@ -175,7 +175,7 @@ fn tell_kept(kept: &mut [u64], k: usize, n: u64, c: Product) -> u64
     requires { ⌜ (length (now kept) ≡ 128) × ((k < 64) × (n ≤ k)) ⌝ }
     ensures { λ r. ⌜ r ≤ k + 1 ⌝ }
 {
-    let first = earlier(kept, k, c);
+    let first = first_alike(kept, k, c);
     if first < k {
         say(b"equal to way ");
         say_number(first as u64);

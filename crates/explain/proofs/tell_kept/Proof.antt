@@ -4,8 +4,8 @@ use lib.ListN.{length-set}
 use Rattle.explain.proofs.tell_kept.Statement.{statement}
 use Rattle.explain.proofs.tell_kept.Tie as tie
 
-earlier-requires : tie.Need-earlier-requires
-earlier-requires c κs = search needs
+first-alike-requires : tie.Need-first-alike-requires
+first-alike-requires c κs = search needs
 
 slice-aggregate-say : tie.Need-slice-aggregate-say
 slice-aggregate-say c = search needs
@@ -65,7 +65,7 @@ pub tell-kept-spec : {M : Type 1} → statement M
 tell-kept-spec =
     tie.close
     (tie.spec
-    earlier-requires
+    first-alike-requires
     slice-aggregate-say
     say-requires
     say-number-requires

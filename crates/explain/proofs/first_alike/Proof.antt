@@ -1,8 +1,8 @@
 use Prim.Native.Nat.{_≤_, _-_}
 use native.Mathlib.Omega.{arith}
 use borrow.Author.Needs.{needs}
-use Rattle.explain.proofs.earlier.Statement.{statement}
-use Rattle.explain.proofs.earlier.Tie as tie
+use Rattle.explain.proofs.first_alike.Statement.{statement}
+use Rattle.explain.proofs.first_alike.Tie as tie
 
 abbrev Inv-loop : tie.InvT-loop
 Inv-loop kept k c i₀ i = i ≤ k
@@ -49,8 +49,8 @@ loop-again c = omega arith
 returns-2 : tie.Need-returns-2 Inv-loop μ-loop
 returns-2 c = search needs
 
-pub earlier-spec : {M : Type 1} → statement M
-earlier-spec =
+pub first-alike-spec : {M : Type 1} → statement M
+first-alike-spec =
     tie.close
     (tie.spec
     Inv-loop
