@@ -29,9 +29,9 @@ use Rattle.rules.specs.Table.{primitives}
 use Rattle.rules.specs.Told.{Tale, Told, fine, refused, tell, toldLocated, toldSearched}
 use Rattle.rules.specs.TreeCalls.{pointRefusal, pointTale, searchTale}
 use Rattle.rules.specs.Verdict.{tableRefusal}
-use Rattle.laws.specs.Answers.{checkedBy}
-use Rattle.laws.proofs.Answering.{checks-pass}
-use Rattle.laws.proofs.Answers.{told-now, told-later, told-fine}
+use Rattle.laws.specs.Checking.{checkedBy}
+use Rattle.laws.proofs.ListAsTree.{checks-pass}
+use Rattle.laws.proofs.Telling.{told-now, told-later, told-fine}
 use Rattle.laws.proofs.SoundLists.{first-append, first-rulings}
 use Rattle.laws.proofs.Soundness.{unless-kept}
 use Rattle.frame.specs.declared.Tally.{Tally}

@@ -20,7 +20,7 @@ use Rattle.rules.specs.declared.Refusal.{Refusal}
 use Rattle.rules.specs.ListFaults.{countRight, fits, plainRight, cutsRight, primitivesRight, productRefusals, headerRefusals}
 use Rattle.rules.specs.ListWords.{headerWords, productCount, primitiveCount, placeOf, productAt}
 use Rattle.rules.specs.Refusals.{refuseIf, refuseUnless}
-use Rattle.laws.specs.Answers.{checkedBy}
+use Rattle.laws.specs.Checking.{checkedBy}
 use Rattle.laws.proofs.SoundLists.{first-append}
 use Rattle.answer.specs.Checks.{earlier, boundsBy}
 

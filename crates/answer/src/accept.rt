@@ -12,7 +12,7 @@ ghost use Rattle.rules.specs.Verdict.{tableRefusal};
 ghost use Rattle.rules.specs.ListWords.{headerWords, primitiveCount, placeOf, productAt};
 ghost use Rattle.rules.specs.ListFaults.{countRight, primitivesRight, productRefusals, headerRefusals, listRefusal, primitivesRefusal};
 ghost use Rattle.rules.specs.Refusals.{refuseIf, refuseUnless};
-ghost use Rattle.laws.specs.Answers.{checkedBy};
+ghost use Rattle.laws.specs.Checking.{checkedBy};
 ghost use Rattle.laws.specs.Sound.{Sound};
 ghost use Rattle.answer.specs.Checks.{earlier, boundsBy};
 

@@ -20,7 +20,7 @@ ghost use Rattle.rules.specs.ListWords.{lowered, listWindow};
 ghost use Rattle.rules.specs.ListInside.{insideList};
 ghost use Rattle.rules.specs.Frame.{frameRefusal, leavesRefusal, sampleInside};
 ghost use Rattle.rules.specs.ListCalls.{ListLocated, ListSearched};
-ghost use Rattle.laws.specs.Answers.{checkedBy};
+ghost use Rattle.laws.specs.Checking.{checkedBy};
 ghost use Rattle.laws.specs.Sound.{Sound};
 ghost use Rattle.laws.specs.SoundList.{SoundList};
 ghost use Rattle.laws.specs.Held.{held, suits, suitsSome};

@@ -9,7 +9,7 @@ use borrow.Author.Tests.{eqb-false, ltb-false}
 use lib.Dec.{eqb, ltb}
 use lib.IntN.{ℤ}
 use lib.ListN.{length}
-use Rattle.ground.specs.Lists.{below, all, any, firstOf}
+use Rattle.ground.specs.Lists.{below, allOf, anyOf, firstOf}
 use Rattle.rules.specs.declared.Place.{Place}
 use Rattle.rules.specs.declared.Point.{Point}
 use Rattle.rules.specs.Ranges.{within, columns, frames}
@@ -38,7 +38,7 @@ module _ (samples : List ℤ) (place : Place) where
     abbrev pub rightColumns : Bool
     rightColumns = columnsRight (place .first) (length samples)
 
-    by-ends : rightColumns ≡ all (λ k. within columns (column place k)) (below (length samples))
+    by-ends : rightColumns ≡ allOf (λ k. within columns (column place k)) (below (length samples))
     by-ends = ends-are-all columns (place .first) (length samples) some-sample
 
     pub columns-wrong : rightColumns ≡ false → frameRefusal samples place ≡ refuse 12 1
@@ -55,5 +55,5 @@ module _ (samples : List ℤ) (place : Place) where
 
 -- a column holds one code
 pub one-code : (isInside : Point → Bool) (samples : List ℤ) (place : Place) (k : ℕ) → sampleInside isInside samples place k ≡ isInside (pointOf place k (codeAt samples k))
-unfolding any
+unfolding anyOf
 one-code isInside samples place k = no-more (isInside (pointOf place k (codeAt samples k)))

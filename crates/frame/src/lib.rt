@@ -14,7 +14,7 @@ ghost use Rattle.rules.specs.Boxes.{holds, everywhere, windowBox};
 ghost use Rattle.rules.specs.Frame.{codeAt, pointOf, frameRefusal};
 ghost use Rattle.rules.specs.Told.{fine, toldSearched};
 ghost use Rattle.rules.specs.TreeCalls.{axisRefusal, pointRefusal, searchTale};
-ghost use Rattle.laws.specs.Answers.{checkedBy};
+ghost use Rattle.laws.specs.Checking.{checkedBy};
 ghost use Rattle.frame.specs.Tallies.{columnsRight, seen, stepped};
 
 // The first inside sample so far, and how many there are.

@@ -10,7 +10,7 @@ use mathlib.Core.Option.{Option, none, some}
 use mathlib.Core.Path.{_≡_, refl, sym, ap, subst, _∙_}
 use Rattle.ground.proofs.Branches.{and-left, and-right}
 use Rattle.ground.proofs.Lists.{flatMap-append}
-use Rattle.ground.specs.Lists.{All, from, rest, below, all, any, orElse, firstOf, rulings}
+use Rattle.ground.specs.Lists.{All, from, rest, below, allOf, anyOf, orElse, firstOf, rulings}
 
 pub rest-cons : (k n : ℕ) → k < n → rest k n ≡ k ∷ rest (k + 1) n
 unfolding from
@@ -72,29 +72,29 @@ module _ {A : Type 0} (rule : ℕ → Option A) (k n : ℕ) where
 
 -- a test of each number
 module _ (test : ℕ → Bool) (k n : ℕ) where
-  pub all-yes : k < n → test k ≡ true → all test (rest k n) ≡ all test (rest (k + 1) n)
-  unfolding all
-  all-yes l h = ap (all test) (rest-cons k n l) ∙ ap (λ (b : Bool). b && all test (rest (k + 1) n)) h
+  pub all-yes : k < n → test k ≡ true → allOf test (rest k n) ≡ allOf test (rest (k + 1) n)
+  unfolding allOf
+  all-yes l h = ap (allOf test) (rest-cons k n l) ∙ ap (λ (b : Bool). b && allOf test (rest (k + 1) n)) h
 
-  pub all-no : k < n → test k ≡ false → all test (rest k n) ≡ false
-  unfolding all
-  all-no l h = ap (all test) (rest-cons k n l) ∙ ap (λ (b : Bool). b && all test (rest (k + 1) n)) h
+  pub all-no : k < n → test k ≡ false → allOf test (rest k n) ≡ false
+  unfolding allOf
+  all-no l h = ap (allOf test) (rest-cons k n l) ∙ ap (λ (b : Bool). b && allOf test (rest (k + 1) n)) h
 
-  pub all-done : n ≤ k → all test (rest k n) ≡ true
-  unfolding all
-  all-done l = ap (all test) (rest-done k n l)
+  pub all-done : n ≤ k → allOf test (rest k n) ≡ true
+  unfolding allOf
+  all-done l = ap (allOf test) (rest-done k n l)
 
-  pub any-yes : k < n → test k ≡ true → any test (rest k n) ≡ true
-  unfolding any
-  any-yes l h = ap (any test) (rest-cons k n l) ∙ ap (λ (b : Bool). b || any test (rest (k + 1) n)) h
+  pub any-yes : k < n → test k ≡ true → anyOf test (rest k n) ≡ true
+  unfolding anyOf
+  any-yes l h = ap (anyOf test) (rest-cons k n l) ∙ ap (λ (b : Bool). b || anyOf test (rest (k + 1) n)) h
 
-  pub any-no : k < n → test k ≡ false → any test (rest k n) ≡ any test (rest (k + 1) n)
-  unfolding any
-  any-no l h = ap (any test) (rest-cons k n l) ∙ ap (λ (b : Bool). b || any test (rest (k + 1) n)) h
+  pub any-no : k < n → test k ≡ false → anyOf test (rest k n) ≡ anyOf test (rest (k + 1) n)
+  unfolding anyOf
+  any-no l h = ap (anyOf test) (rest-cons k n l) ∙ ap (λ (b : Bool). b || anyOf test (rest (k + 1) n)) h
 
-  pub any-done : n ≤ k → any test (rest k n) ≡ false
-  unfolding any
-  any-done l = ap (any test) (rest-done k n l)
+  pub any-done : n ≤ k → anyOf test (rest k n) ≡ false
+  unfolding anyOf
+  any-done l = ap (anyOf test) (rest-done k n l)
 
 pub or-else-none : {A : Type 0} (x : Option A) → x ≡ orElse x none
 or-else-none none = refl
@@ -134,22 +134,22 @@ module _ {A : Type 0} where
 
 -- a test of all the numbers below n
 module _ (test : ℕ → Bool) where
-  go-true : (start n : ℕ) → ((k : ℕ) → start ≤ k → k < start + n → test k ≡ true) → all test (from start n) ≡ true
-  unfolding from all
+  go-true : (start n : ℕ) → ((k : ℕ) → start ≤ k → k < start + n → test k ≡ true) → allOf test (from start n) ≡ true
+  unfolding from allOf
   go-true start zero h = refl
   go-true start (suc n) h = rw (h start (omega arith) (omega arith)) (go-true (suc start) n (λ k a b. h k (omega arith) (omega arith)))
 
-  pub all-true : (n : ℕ) → ((k : ℕ) → k < n → test k ≡ true) → all test (below n) ≡ true
+  pub all-true : (n : ℕ) → ((k : ℕ) → k < n → test k ≡ true) → allOf test (below n) ≡ true
   all-true n h = go-true 0 n (λ k a b. h k (omega arith))
 
-  go-at : (start n : ℕ) → all test (from start n) ≡ true → (k : ℕ) → start ≤ k → k < start + n → test k ≡ true
-  unfolding from all
+  go-at : (start n : ℕ) → allOf test (from start n) ≡ true → (k : ℕ) → start ≤ k → k < start + n → test k ≡ true
+  unfolding from allOf
   go-at start zero h k a b = absurd (omega arith)
-  go-at start (suc n) h k a b = at (decLe (suc start) k) (go-at (suc start) n (and-right (test start) (all test (from (suc start) n)) h) k)
+  go-at start (suc n) h k a b = at (decLe (suc start) k) (go-at (suc start) n (and-right (test start) (allOf test (from (suc start) n)) h) k)
     where
       at : Dec (suc start ≤ k) → (suc start ≤ k → k < suc start + n → test k ≡ true) → test k ≡ true
       at (yes l) rest = rest l (omega arith)
-      at (no l) rest = let e : start ≡ k = omega arith in ap test (sym e) ∙ and-left (test start) (all test (from (suc start) n)) h
+      at (no l) rest = let e : start ≡ k = omega arith in ap test (sym e) ∙ and-left (test start) (allOf test (from (suc start) n)) h
 
-  pub all-at-each : (n : ℕ) → all test (below n) ≡ true → (k : ℕ) → k < n → test k ≡ true
+  pub all-at-each : (n : ℕ) → allOf test (below n) ≡ true → (k : ℕ) → k < n → test k ≡ true
   all-at-each n h k l = go-at 0 n h k (omega arith) (omega arith)

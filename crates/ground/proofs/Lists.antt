@@ -7,7 +7,7 @@ use mathlib.Core.Path.{_≡_, refl, sym, ap, ap₂, subst, _∙_}
 use mathlib.Core.List.{List, [], _∷_, _++_, map, flatMap, append-assoc}
 use lib.ListN.{length, getD}
 use Rattle.ground.specs.Tests.{if_then_else_}
-use Rattle.ground.specs.Lists.{All, any, findIf}
+use Rattle.ground.specs.Lists.{All, anyOf, findIf}
 
 module _ {A : Type 0} where
   pub all-append : (P : A → Type 0) (xs ys : List A) → All P xs → All P ys → All P (xs ++ ys)
@@ -58,12 +58,12 @@ module _ {A B : Type 0} where
 
 -- ---- some element passes a test
 
-pub any-mapped : {A B : Type 0} (test : B → Bool) (f : A → B) (xs : List A) → any test (map f xs) ≡ any (λ x. test (f x)) xs
-unfolding any
+pub any-mapped : {A B : Type 0} (test : B → Bool) (f : A → B) (xs : List A) → anyOf test (map f xs) ≡ anyOf (λ x. test (f x)) xs
+unfolding anyOf
 any-mapped test f [] = refl
 any-mapped test f (x ∷ xs) = ap (λ (b : Bool). test (f x) || b) (any-mapped test f xs)
 
-pub any-same : {A : Type 0} (p q : A → Bool) (xs : List A) → All (λ x. p x ≡ q x) xs → any p xs ≡ any q xs
-unfolding any
+pub any-same : {A : Type 0} (p q : A → Bool) (xs : List A) → All (λ x. p x ≡ q x) xs → anyOf p xs ≡ anyOf q xs
+unfolding anyOf
 any-same p q [] h = refl
 any-same p q (x ∷ xs) h = ap₂ _||_ (h .0) (any-same p q xs (h .1))

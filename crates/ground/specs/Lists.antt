@@ -20,13 +20,13 @@ below n = from 0 n
 
 module _ {A : Type 0} where
   -- the test holds of each element; of some element
-  unfoldable pub all : (A → Bool) → List A → Bool
-  all test [] = true
-  all test (x ∷ xs) = test x && all test xs
+  unfoldable pub allOf : (A → Bool) → List A → Bool
+  allOf test [] = true
+  allOf test (x ∷ xs) = test x && allOf test xs
 
-  unfoldable pub any : (A → Bool) → List A → Bool
-  any test [] = false
-  any test (x ∷ xs) = test x || any test xs
+  unfoldable pub anyOf : (A → Bool) → List A → Bool
+  anyOf test [] = false
+  anyOf test (x ∷ xs) = test x || anyOf test xs
 
   -- the elements of which the test holds, in order; how many there are; the first of them
   unfoldable pub keepIf : (A → Bool) → List A → List A

@@ -14,7 +14,7 @@ use lib.IntN.{ℤ, pos, negsuc, natAbs, _+ℤ_, _-ℤ_, _*ℤ_, +ℤ-assoc, +ℤ
 use lib.ListN.{length, getD}
 use lib.Signed.{leZ}
 use Rattle.ground.specs.Bits.{odd, selected}
-use Rattle.ground.specs.Lists.{all, any}
+use Rattle.ground.specs.Lists.{allOf, anyOf}
 use Rattle.ground.specs.Tests.{if_then_else_}
 use Rattle.ground.proofs.Branches.{false-true, and-left, and-right}
 use Rattle.ground.proofs.Order.{leZ-add}
@@ -28,7 +28,7 @@ use Rattle.rules.specs.Tree.{Tree, solid, union, inter, diff, nowhere}
 use Rattle.rules.specs.Ranges.{within}
 use Rattle.rules.specs.Boxes.{holds}
 use Rattle.rules.specs.Fields.{radii, drumRight}
-use Rattle.rules.specs.Inside.{bounds, below, square, inEllipse, inside, insideSolid}
+use Rattle.rules.specs.Inside.{bounds, halfSpace, square, inEllipse, inside, insideSolid}
 use Rattle.rules.specs.Choices.{Side, inOf, outOf, choices, joined, _crossed-with_}
 use Rattle.rules.specs.Products.{boxOf}
 use Rattle.rules.specs.ListInside.{insideProduct}
@@ -49,42 +49,42 @@ not-and false b = refl
 -- ---- the elements at the places of a set
 
 module _ {A : Type 0} where
-  none-is : (test : A → Bool) (xs : List A) → not (any test xs) ≡ all (λ x. not (test x)) xs
-  unfolding any all
+  none-is : (test : A → Bool) (xs : List A) → not (anyOf test xs) ≡ allOf (λ x. not (test x)) xs
+  unfolding anyOf allOf
   none-is test [] = refl
-  none-is test (x ∷ xs) = not-or (test x) (any test xs) ∙ ap (λ (b : Bool). not (test x) && b) (none-is test xs)
+  none-is test (x ∷ xs) = not-or (test x) (anyOf test xs) ∙ ap (λ (b : Bool). not (test x) && b) (none-is test xs)
 
 module _ {A : Type 0} (test : A → Bool) where
-  all-of-none : (xs : List A) → all test (selected 0 xs) ≡ true
-  unfolding selected all
+  all-of-none : (xs : List A) → allOf test (selected 0 xs) ≡ true
+  unfolding selected allOf
   all-of-none [] = refl
   all-of-none (x ∷ xs) = all-of-none xs
 
-  all-of-one : (d : A) (xs : List A) (i : ℕ) → i < length xs → all test (selected (2 ^ i) xs) ≡ test (getD xs i d)
-  unfolding selected all has
+  all-of-one : (d : A) (xs : List A) (i : ℕ) → i < length xs → allOf test (selected (2 ^ i) xs) ≡ test (getD xs i d)
+  unfolding selected allOf has
   all-of-one d [] i l = absurd (not-suc-le-zero l)
   all-of-one d (x ∷ xs) zero l = ap (λ (b : Bool). test x && b) (all-of-none xs) ∙ and-true (test x)
   all-of-one d (x ∷ xs) (suc i) l =
       let later : odd (2 ^ suc i) ≡ false = has-one zero (suc i) ∙ eqb·zero-suc i in
       let halved : 2 ^ suc i / 2 ≡ 2 ^ i = ap (λ (n : ℕ). n / 2) (pow-suc 2 i) ∙ mul-div-cancel (2 ^ i) (zero-lt-suc 1) in
-      ap₂ (λ (o : Bool) (n : ℕ). all test (if o then x ∷ selected n xs else selected n xs)) later halved
+      ap₂ (λ (o : Bool) (n : ℕ). allOf test (if o then x ∷ selected n xs else selected n xs)) later halved
       ∙ all-of-one d xs i (le-of-suc-le-suc l)
 
-  all-of-both : (xs : List A) (a b : ℕ) → all test (selected (bitOr a b) xs) ≡ (all test (selected a xs) && all test (selected b xs))
-  unfolding selected all has
+  all-of-both : (xs : List A) (a b : ℕ) → allOf test (selected (bitOr a b) xs) ≡ (allOf test (selected a xs) && allOf test (selected b xs))
+  unfolding selected allOf has
   all-of-both [] a b = refl
   all-of-both (x ∷ xs) a b =
-      ap₂ (λ (o : Bool) (n : ℕ). all test (if o then x ∷ selected n xs else selected n xs)) (has-or zero a b) (or-shr a b 1)
+      ap₂ (λ (o : Bool) (n : ℕ). allOf test (if o then x ∷ selected n xs else selected n xs)) (has-or zero a b) (or-shr a b 1)
       ∙ picked (odd a || odd b) (selected (bitOr (a / 2) (b / 2)) xs)
       ∙ ap (λ (r : Bool). asked (odd a || odd b) && r) (all-of-both xs (a / 2) (b / 2))
-      ∙ ap (λ (r : Bool). r && (all test (selected (a / 2) xs) && all test (selected (b / 2) xs))) (either (odd a) (odd b) (test x))
-      ∙ and-swap (asked (odd a)) (asked (odd b)) (all test (selected (a / 2) xs)) (all test (selected (b / 2) xs))
+      ∙ ap (λ (r : Bool). r && (allOf test (selected (a / 2) xs) && allOf test (selected (b / 2) xs))) (either (odd a) (odd b) (test x))
+      ∙ and-swap (asked (odd a)) (asked (odd b)) (allOf test (selected (a / 2) xs)) (allOf test (selected (b / 2) xs))
       ∙ sym (ap₂ _&&_ (picked (odd a) (selected (a / 2) xs)) (picked (odd b) (selected (b / 2) xs)))
     where
       asked : Bool → Bool
       asked o = if o then test x else true
 
-      picked : (o : Bool) (ys : List A) → all test (if o then x ∷ ys else ys) ≡ (asked o && all test ys)
+      picked : (o : Bool) (ys : List A) → allOf test (if o then x ∷ ys else ys) ≡ (asked o && allOf test ys)
       picked true ys = refl
       picked false ys = refl
 
@@ -97,24 +97,24 @@ module _ {A : Type 0} (test : A → Bool) where
 -- ---- some element of two lists put together
 
 module _ {A : Type 0} (test : A → Bool) where
-  any-append : (xs ys : List A) → any test (xs ++ ys) ≡ (any test xs || any test ys)
-  unfolding any
+  any-append : (xs ys : List A) → anyOf test (xs ++ ys) ≡ (anyOf test xs || anyOf test ys)
+  unfolding anyOf
   any-append [] ys = refl
-  any-append (x ∷ xs) ys = ap (λ (b : Bool). test x || b) (any-append xs ys) ∙ sym (or-assoc (test x) (any test xs) (any test ys))
+  any-append (x ∷ xs) ys = ap (λ (b : Bool). test x || b) (any-append xs ys) ∙ sym (or-assoc (test x) (anyOf test xs) (anyOf test ys))
 
 module _ (test : Product → Bool) (split : (a b : Product) → test (joined a b) ≡ (test a && test b)) where
-  any-joined : (lefts : List Product) (r : Product) → any test (map (λ l. joined l r) lefts) ≡ (any test lefts && test r)
-  unfolding any
+  any-joined : (lefts : List Product) (r : Product) → anyOf test (map (λ l. joined l r) lefts) ≡ (anyOf test lefts && test r)
+  unfolding anyOf
   any-joined [] r = refl
-  any-joined (l ∷ lefts) r = ap₂ _||_ (split l r) (any-joined lefts r) ∙ sym (and-or-distrib-right (test l) (any test lefts) (test r))
+  any-joined (l ∷ lefts) r = ap₂ _||_ (split l r) (any-joined lefts r) ∙ sym (and-or-distrib-right (test l) (anyOf test lefts) (test r))
 
-  any-crossed : (lefts rights : List Product) → any test (lefts crossed-with rights) ≡ (any test lefts && any test rights)
-  unfolding any _crossed-with_
-  any-crossed lefts [] = sym (and-false (any test lefts))
+  any-crossed : (lefts rights : List Product) → anyOf test (lefts crossed-with rights) ≡ (anyOf test lefts && anyOf test rights)
+  unfolding anyOf _crossed-with_
+  any-crossed lefts [] = sym (and-false (anyOf test lefts))
   any-crossed lefts (r ∷ rights) =
       any-append test (map (λ l. joined l r) lefts) (lefts crossed-with rights)
       ∙ ap₂ _||_ (any-joined lefts r) (any-crossed lefts rights)
-      ∙ sym (and-or-distrib-left (any test lefts) (test r) (any test rights))
+      ∙ sym (and-or-distrib-left (anyOf test lefts) (test r) (anyOf test rights))
 
 -- ---- the tree
 
@@ -141,26 +141,26 @@ module _ (solids : List Primitive) (p : Point) where
   out-of-it s = not (insideSolid s p)
 
   -- in all of the plain ones, and out of all of the cuts
-  by-all : (c : Product) → holding c ≡ (all in-it (selected (c .plain) solids) && all out-of-it (selected (c .cuts) solids))
+  by-all : (c : Product) → holding c ≡ (allOf in-it (selected (c .plain) solids) && allOf out-of-it (selected (c .cuts) solids))
   unfolding insideProduct
-  by-all c = ap (λ (b : Bool). all in-it (selected (c .plain) solids) && b) (none-is in-it (selected (c .cuts) solids))
+  by-all c = ap (λ (b : Bool). allOf in-it (selected (c .plain) solids) && b) (none-is in-it (selected (c .cuts) solids))
 
   holding-joined : (a b : Product) → holding (joined a b) ≡ (holding a && holding b)
   holding-joined a b =
       by-all (joined a b)
       ∙ ap₂ _&&_ (all-of-both in-it solids (a .plain) (b .plain)) (all-of-both out-of-it solids (a .cuts) (b .cuts))
-      ∙ and-swap (all in-it (selected (a .plain) solids)) (all in-it (selected (b .plain) solids))
-      (all out-of-it (selected (a .cuts) solids)) (all out-of-it (selected (b .cuts) solids))
+      ∙ and-swap (allOf in-it (selected (a .plain) solids)) (allOf in-it (selected (b .plain) solids))
+      (allOf out-of-it (selected (a .cuts) solids)) (allOf out-of-it (selected (b .cuts) solids))
       ∙ sym (ap₂ _&&_ (by-all a) (by-all b))
 
-  in-either : (l r : List Product) {a b : Bool} → any holding l ≡ a → any holding r ≡ b → any holding (l ++ r) ≡ (a || b)
+  in-either : (l r : List Product) {a b : Bool} → anyOf holding l ≡ a → anyOf holding r ≡ b → anyOf holding (l ++ r) ≡ (a || b)
   in-either l r e f = any-append holding l r ∙ ap₂ _||_ e f
 
-  in-both : (l r : List Product) {a b : Bool} → any holding l ≡ a → any holding r ≡ b → any holding (l crossed-with r) ≡ (a && b)
+  in-both : (l r : List Product) {a b : Bool} → anyOf holding l ≡ a → anyOf holding r ≡ b → anyOf holding (l crossed-with r) ≡ (a && b)
   in-both l r e f = any-crossed holding holding-joined l r ∙ ap₂ _&&_ e f
 
-  side-agrees : (side : Side) (tree : Tree) → Placed solids tree → any holding (choices side tree) ≡ on side (inside tree p)
-  unfolding any choices inside Placed
+  side-agrees : (side : Side) (tree : Tree) → Placed solids tree → anyOf holding (choices side tree) ≡ on side (inside tree p)
+  unfolding anyOf choices inside Placed
   side-agrees inOf (solid i s) h =
       or-false (holding (record { plain = 2 ^ i; cuts = 0 }))
       ∙ by-all (record { plain = 2 ^ i; cuts = 0 })
@@ -188,7 +188,7 @@ module _ (solids : List Primitive) (p : Point) where
 
   module _ (tree : Tree) (placed : Placed solids tree) where
     -- a point is inside a tree just if it is inside one of the choices in it
-    pub choices-inside : inside tree p ≡ any (λ c. insideProduct solids c p) (choices inOf tree)
+    pub choices-inside : inside tree p ≡ anyOf (λ c. insideProduct solids c p) (choices inOf tree)
     choices-inside = sym (side-agrees inOf tree placed)
 
 -- ---- a primitive and its box
@@ -267,5 +267,5 @@ drum-box d p right h =
 -- a primitive lies in its box
 pub box-holds : (s : Primitive) (p : Point) → solidRight s ≡ true → insideSolid s p ≡ true → holds (boxOf s) p ≡ true
 box-holds (primitive.Box b) p right h = h
-box-holds (primitive.Wedge w) p right h = and-left (holds (bounds (w .bounds)) p) (below (w .a) (w .b) (w .c) (w .d) (p .x) (p .y) (p .z)) h
+box-holds (primitive.Wedge w) p right h = and-left (holds (bounds (w .bounds)) p) (halfSpace (w .a) (w .b) (w .c) (w .d) (p .x) (p .y) (p .z)) h
 box-holds (primitive.Drum d) p right h = drum-box d p right h

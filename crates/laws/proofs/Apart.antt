@@ -239,11 +239,11 @@ module _ (t : List ℤ) (S : Sound t) where
 
   -- a row before another, that no row before that names
   record Free (row i : ℕ) : Type 0 where
-    earlier : i < row
+    is-before : i < row
     unnamed : times i row ≡ 0
 
   free-down : (row i : ℕ) → Free (suc row) i → i < row → Free row i
-  free-down row i f l = record { earlier = l; unnamed = omega (arith, next-times i row, f .unnamed) }
+  free-down row i f l = record { is-before = l; unnamed = omega (arith, next-times i row, f .unnamed) }
 
   abbrev FreeApart : ℕ → Type 0
   FreeApart row = (i j : ℕ) → Free row i → Free row j → (i ≡ j → ⊥) → bitAnd (heldAt i) (heldAt j) ≡ 0
@@ -254,7 +254,7 @@ module _ (t : List ℤ) (S : Sound t) where
     here i = next-times i row ∙ ap (λ (is : List ℕ). times i row + countIf (eqb i) is) c
 
     child-free : (i : ℕ) → i < row → 1 ≤ countIf (eqb i) (a ∷ b ∷ []) → Free row i
-    child-free i e n = record { earlier = e; unnamed = omega (arith, here i, times-most i (suc row) (omega arith) l) }
+    child-free i e n = record { is-before = e; unnamed = omega (arith, here i, times-most i (suc row) (omega arith) l) }
 
     children-apart : a < row → b < row → bitAnd (heldAt a) (heldAt b) ≡ 0
     children-apart la lb =
@@ -280,8 +280,8 @@ module _ (t : List ℤ) (S : Sound t) where
           rw (node-held row a b w) (or-and (heldAt a) (heldAt b) (heldAt j) ∙ ap₂ bitOr (child a la (left-named a b)) (child b lb (right-named a b)))
 
   free-apart : (row : ℕ) → row ≤ rowCount t → FreeApart row
-  free-apart zero h i j f g ne = absurd (omega (arith, f .earlier))
-  free-apart (suc row) h i j f g ne = go (last i (f .earlier)) (last j (g .earlier)) (free-apart row (omega arith))
+  free-apart zero h i j f g ne = absurd (omega (arith, f .is-before))
+  free-apart (suc row) h i j f g ne = go (last i (f .is-before)) (last j (g .is-before)) (free-apart row (omega arith))
     where
       last : (x : ℕ) → x < suc row → (x ≡ row) ⊎ (x < row)
       last x l = eq-or-lt-of-le (le-of-suc-le-suc l)

@@ -10,7 +10,7 @@ use lib.Dec.{eqb, ltb}
 use lib.IntN.{ℤ, pos, negsuc, _+ℤ_, +ℤ-idr}
 use lib.ListN.{length}
 use lib.Signed.{mag, leZ}
-use Rattle.ground.specs.Lists.{below, all}
+use Rattle.ground.specs.Lists.{below, allOf}
 use Rattle.ground.proofs.Branches.{and-left, and-right}
 use Rattle.ground.proofs.Counting.{all-true, all-at-each, first-kept}
 use Rattle.ground.proofs.Order.{leZ-trans, leZ-add}
@@ -30,7 +30,7 @@ module _ (s : Span) (first : ℤ) (n : ℕ) (some-column : 1 ≤ n) where
   abbrev ends : Bool
   ends = within s first && leZ (first +ℤ pos (n - 1)) (s .hi)
 
-  ends-all : ends ≡ true → all (λ k. within s (first +ℤ pos k)) (below n) ≡ true
+  ends-all : ends ≡ true → allOf (λ k. within s (first +ℤ pos k)) (below n) ≡ true
   ends-all h = all-true (λ k. within s (first +ℤ pos k)) n each
     where
       low : leZ (s .lo) first ≡ true
@@ -46,7 +46,7 @@ module _ (s : Span) (first : ℤ) (n : ℕ) (some-column : 1 ≤ n) where
           let b : leZ (first +ℤ pos k) (s .hi) ≡ true = leZ-trans (first +ℤ pos k) (first +ℤ pos (n - 1)) (s .hi) (leZ-add first k (n - 1) (omega arith)) high in
           rw (a, b)
 
-  all-ends : all (λ k. within s (first +ℤ pos k)) (below n) ≡ true → ends ≡ true
+  all-ends : allOf (λ k. within s (first +ℤ pos k)) (below n) ≡ true → ends ≡ true
   all-ends h =
       let zeroth : within s (first +ℤ pos 0) ≡ true = all-at-each (λ k. within s (first +ℤ pos k)) n h 0 (omega arith) in
       let a : within s first ≡ true = ap (within s) (sym (+ℤ-idr first)) ∙ zeroth in
@@ -55,8 +55,8 @@ module _ (s : Span) (first : ℤ) (n : ℕ) (some-column : 1 ≤ n) where
       rw (a, b)
 
   -- the code's test of the two ends is the rule of all
-  pub ends-are-all : ends ≡ all (λ k. within s (first +ℤ pos k)) (below n)
-  ends-are-all = bool-both ends (all (λ k. within s (first +ℤ pos k)) (below n)) ends-all all-ends
+  pub ends-are-all : ends ≡ allOf (λ k. within s (first +ℤ pos k)) (below n)
+  ends-are-all = bool-both ends (allOf (λ k. within s (first +ℤ pos k)) (below n)) ends-all all-ends
 
 -- a code of 16 bits is in range
 pub code-in : (v : ℤ) → mag v < 32768 → within codes v ≡ true
@@ -73,7 +73,7 @@ pub record FrameRight (samples : List ℤ) (place : Place) : Type 0 where
 
 module _ (samples : List ℤ) (place : Place) where
   abbrev columnRule : Bool
-  columnRule = all (λ k. within columns (column place k)) (below (length samples))
+  columnRule = allOf (λ k. within columns (column place k)) (below (length samples))
 
   pub frame-right : frameRefusal samples place ≡ none → FrameRight samples place
   frame-right e =

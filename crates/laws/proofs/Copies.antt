@@ -25,8 +25,8 @@ use Rattle.rules.specs.Tree.{treeOf}
 use Rattle.rules.specs.Verdict.{tableRefusal}
 use Rattle.rules.proofs.Told.{written-once}
 use Rattle.laws.specs.Promises.{Made, prunedAfterwards, needed, Listable}
-use Rattle.laws.proofs.Answering.{accepted, table-fine, window-fine, few-choices}
-use Rattle.laws.proofs.Promise.{is-over}
+use Rattle.laws.proofs.ListAsTree.{accepted, table-fine, window-fine, few-choices}
+use Rattle.laws.proofs.Buffers.{is-over}
 use Rattle.laws.proofs.Soundness.{unless-kept}
 use Rattle.laws.proofs.Words.{list-length}
 

@@ -8,7 +8,7 @@ use borrow.Author.Tests.{eqb-true, eq-eqb}
 use lib.Dec.{eqb}
 use lib.ListN.{length}
 use Rattle.ground.specs.Tests.{if_then_else_}
-use Rattle.ground.specs.Lists.{any, keepIf}
+use Rattle.ground.specs.Lists.{anyOf, keepIf}
 use Rattle.ground.proofs.Branches.{and-left, and-right}
 use Rattle.rules.specs.declared.Product.{Product}
 use Rattle.rules.specs.Products.{same, firsts}
@@ -26,13 +26,13 @@ pub equal-same : (c d : Product) → c ≡ d → same c d ≡ true
 equal-same c d e = ap₂ _&&_ (eq-eqb (c .plain) (d .plain) (λ i. e i .plain)) (eq-eqb (c .cuts) (d .cuts) (λ i. e i .cuts))
 
 -- a last product stays unless an equal one stands before it
-pub firsts-last : (xs : List Product) (x : Product) → firsts (xs ++ (x ∷ [])) ≡ firsts xs ++ (if any (λ y. same y x) xs then [] else (x ∷ []))
-unfolding firsts any keepIf
+pub firsts-last : (xs : List Product) (x : Product) → firsts (xs ++ (x ∷ [])) ≡ firsts xs ++ (if anyOf (λ y. same y x) xs then [] else (x ∷ []))
+unfolding firsts anyOf keepIf
 firsts-last [] x = refl
 firsts-last (c ∷ xs) x =
     ap (λ (l : List Product). c ∷ keepIf (λ y. not (same c y)) l) (firsts-last xs x)
-    ∙ ap {B = List Product} (λ l. c ∷ l) (kept-append (λ y. not (same c y)) (firsts xs) (if any (λ y. same y x) xs then [] else (x ∷ [])))
-    ∙ ap {B = List Product} (λ l. (c ∷ keepIf (λ y. not (same c y)) (firsts xs)) ++ l) (go (same c x) refl (any (λ y. same y x) xs))
+    ∙ ap {B = List Product} (λ l. c ∷ l) (kept-append (λ y. not (same c y)) (firsts xs) (if anyOf (λ y. same y x) xs then [] else (x ∷ [])))
+    ∙ ap {B = List Product} (λ l. (c ∷ keepIf (λ y. not (same c y)) (firsts xs)) ++ l) (go (same c x) refl (anyOf (λ y. same y x) xs))
   where
     go : (s : Bool) → same c x ≡ s → (t : Bool) → keepIf (λ y. not (same c y)) (if t then [] else (x ∷ [])) ≡ (if (s || t) then [] else (x ∷ []))
     go true e true = refl

@@ -68,8 +68,8 @@ module _ (list : List ℕ) (i : ℕ) (b : BoundsIn list i) where
       (leZ-trans v high (pos 32767) (and-right (leZ low v) (leZ v high) h) greatest)
 
 -- a point of a list's window is in range
-pub listed-in-range : (list : List ℕ) → SoundHeader list → (p : Point) → holds (listWindow list) p ≡ true → holds everywhere p ≡ true
-listed-in-range list S p h =
+pub list-window-in-range : (list : List ℕ) → SoundHeader list → (p : Point) → holds (listWindow list) p ≡ true → holds everywhere p ≡ true
+list-window-in-range list S p h =
     let b = listWindow list in
     let x = within (b .x) (p .x) in
     let y = within (b .y) (p .y) in

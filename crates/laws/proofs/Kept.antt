@@ -8,7 +8,7 @@ use mathlib.Core.List.{List, [], _∷_, _++_, map}
 use mathlib.Core.Path.{_≡_, refl, sym, ap, _∙_}
 use lib.ListN.{length, getD}
 use Rattle.ground.specs.Tests.{if_then_else_}
-use Rattle.ground.specs.Lists.{from, any, keepIf}
+use Rattle.ground.specs.Lists.{from, anyOf, keepIf}
 use Rattle.ground.proofs.Branches.{false-true}
 
 module _ {A : Type 0} (test : A → Bool) where
@@ -32,31 +32,31 @@ module _ {A : Type 0} (test : A → Bool) where
       go false h = omega arith
 
   -- a test that some element passes, by the element's place
-  pub any-found : (d : A) (xs : List A) → any test xs ≡ true → (i : ℕ) × (i < length xs) × (test (getD xs i d) ≡ true)
-  unfolding any
+  pub any-found : (d : A) (xs : List A) → anyOf test xs ≡ true → (i : ℕ) × (i < length xs) × (test (getD xs i d) ≡ true)
+  unfolding anyOf
   any-found d [] h = false-true h
   any-found d (x ∷ xs) h = go (test x) refl h (any-found d xs)
     where
-      go : (b : Bool) → test x ≡ b → (b || any test xs) ≡ true → (any test xs ≡ true → (i : ℕ) × (i < length xs) × (test (getD xs i d) ≡ true))
+      go : (b : Bool) → test x ≡ b → (b || anyOf test xs) ≡ true → (anyOf test xs ≡ true → (i : ℕ) × (i < length xs) × (test (getD xs i d) ≡ true))
           → (i : ℕ) × (i < suc (length xs)) × (test (getD (x ∷ xs) i d) ≡ true)
       go true e h f = (0, omega arith, e)
       go false e h f = let s = f h in let l : s .0 < length xs = s .1 in (suc (s .0), omega arith, s .2)
 
-  pub found-any : (d : A) (xs : List A) (i : ℕ) → i < length xs → test (getD xs i d) ≡ true → any test xs ≡ true
-  unfolding any
+  pub found-any : (d : A) (xs : List A) (i : ℕ) → i < length xs → test (getD xs i d) ≡ true → anyOf test xs ≡ true
+  unfolding anyOf
   found-any d [] i l h = absurd (not-suc-le-zero l)
-  found-any d (x ∷ xs) zero l h = ap (λ (b : Bool). b || any test xs) h
+  found-any d (x ∷ xs) zero l h = ap (λ (b : Bool). b || anyOf test xs) h
   found-any d (x ∷ xs) (suc i) l h = ap (λ (b : Bool). test x || b) (found-any d xs i (le-of-suc-le-suc l) h) ∙ or-true (test x)
 
 -- a test of what is made of the elements that another test keeps
 pub any-made : {A B : Type 0} (test : B → Bool) (f : A → B) (keep : A → Bool) (xs : List A)
-    → any test (map f (keepIf keep xs)) ≡ any (λ x. keep x && test (f x)) xs
-unfolding any keepIf
+    → anyOf test (map f (keepIf keep xs)) ≡ anyOf (λ x. keep x && test (f x)) xs
+unfolding anyOf keepIf
 any-made test f keep [] = refl
 any-made test f keep (x ∷ xs) = go (keep x) (any-made test f keep xs)
   where
-    go : (b : Bool) → any test (map f (keepIf keep xs)) ≡ any (λ x. keep x && test (f x)) xs
-        → any test (map f (if b then x ∷ keepIf keep xs else keepIf keep xs)) ≡ ((b && test (f x)) || any (λ x. keep x && test (f x)) xs)
+    go : (b : Bool) → anyOf test (map f (keepIf keep xs)) ≡ anyOf (λ x. keep x && test (f x)) xs
+        → anyOf test (map f (if b then x ∷ keepIf keep xs else keepIf keep xs)) ≡ ((b && test (f x)) || anyOf (λ x. keep x && test (f x)) xs)
     go true e = ap (λ (b : Bool). test (f x) || b) e
     go false e = e
 

@@ -9,7 +9,7 @@ use mathlib.Core.Path.{_≡_, sym, ap, subst, _∙_}
 use lib.IntN.{ℤ}
 use lib.ListN.{length, getD}
 use lib.Seq.{getD-append-seam}
-use Rattle.ground.specs.Lists.{any}
+use Rattle.ground.specs.Lists.{anyOf}
 use Rattle.rules.specs.declared.Point.{Point}
 use Rattle.rules.specs.declared.Primitive.{Primitive}
 use Rattle.rules.specs.declared.Row.{Row}
@@ -69,5 +69,5 @@ module _ (t : List ℤ) where
     tree-placed = placed-to (rowCount t) (rowCount t - 1) (omega (arith, S .some-row)) (omega (arith, S .some-row))
 
     -- a point is inside the tree just if some choice holds it
-    pub tree-choices : (p : Point) → inside (treeOf t) p ≡ any (λ c. insideProduct (primitives t) c p) (choices inOf (treeOf t))
+    pub tree-choices : (p : Point) → inside (treeOf t) p ≡ anyOf (λ c. insideProduct (primitives t) c p) (choices inOf (treeOf t))
     tree-choices p = choices-inside (primitives t) p (treeOf t) tree-placed

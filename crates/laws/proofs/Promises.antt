@@ -29,10 +29,10 @@ use Rattle.rules.proofs.Settled.{tree-located-settled, tree-searched-settled, l
 use Rattle.rules.proofs.Settled.{text-read-settled, text-written-settled, list-made-keeps, text-read-keeps, text-written-keeps}
 use Rattle.rules.proofs.Told.{written-once}
 use Rattle.laws.specs.Promises.{Promise1, InTree, InList, BySet, Made, Faithful, Promise2, needed, Listable, Promise3}
-use Rattle.laws.proofs.Answering.{sampleHeld, window-in-range, made-passes, list-locates, list-answers-tree, list-refuses-outside, searches-agree}
+use Rattle.laws.proofs.ListAsTree.{sampleHeld, window-in-range, made-passes, list-locates, list-answers-tree, list-refuses-outside, searches-agree}
 use Rattle.laws.proofs.Copies.{list-needs, listable-fine, not-refused, made-listable, made-fits, made-length, made-words, made-here}
 use Rattle.laws.proofs.Outcomes.{check-answers, point-answers, search-answers, writes, read-answer}
-use Rattle.laws.proofs.Promise.{list-right, list-rest, list-room}
+use Rattle.laws.proofs.Buffers.{list-right, list-rest, list-room}
 use Rattle.laws.proofs.Searches.{search-finds}
 use Rattle.laws.proofs.Sets.{says-itself, tests-are-sets, tree-answers-sets}
 use Rattle.laws.proofs.Strangers.{stranger-refused}

@@ -9,7 +9,7 @@ use lib.Bits.{bitAnd}
 use lib.IntN.{ℤ}
 use lib.Signed.{leZ}
 use Rattle.ground.specs.Bits.{odd, selected, placesOf}
-use Rattle.ground.specs.Lists.{All, below, all, any, keepIf}
+use Rattle.ground.specs.Lists.{All, below, allOf, anyOf, keepIf}
 use Rattle.ground.specs.Tests.{if_then_else_}
 use Rattle.ground.proofs.Branches.{and-left, and-right}
 use Rattle.ground.proofs.Counting.{numbers-below}
@@ -98,18 +98,18 @@ module _ {A : Type 0} where
       go true others = λ i. if test x then x ∷ others i else others i
       go false others = others
 
-  any-kept : (test keep : A → Bool) (xs : List A) → any test (keepIf keep xs) ≡ any (λ x. keep x && test x) xs
-  any-kept test keep xs = ap (any test) (sym (map-id (keepIf keep xs))) ∙ any-made test (λ x. x) keep xs
+  any-kept : (test keep : A → Bool) (xs : List A) → anyOf test (keepIf keep xs) ≡ anyOf (λ x. keep x && test x) xs
+  any-kept test keep xs = ap (anyOf test) (sym (map-id (keepIf keep xs))) ∙ any-made test (λ x. x) keep xs
 
 -- of equal products the first answers for all
-any-firsts : (test : Product → Bool) (cs : List Product) → any test (firsts cs) ≡ any test cs
-unfolding firsts any
+any-firsts : (test : Product → Bool) (cs : List Product) → anyOf test (firsts cs) ≡ anyOf test cs
+unfolding firsts anyOf
 any-firsts test [] = refl
 any-firsts test (c ∷ cs) = go (test c) refl ∙ ap (λ (b : Bool). test c || b) (any-firsts test cs)
   where
-    go : (b : Bool) → test c ≡ b → (b || any test (keepIf (λ d. not (same c d)) (firsts cs))) ≡ (b || any test (firsts cs))
+    go : (b : Bool) → test c ≡ b → (b || anyOf test (keepIf (λ d. not (same c d)) (firsts cs))) ≡ (b || anyOf test (firsts cs))
     go true e = refl
-    go false e = any-kept test (λ d. not (same c d)) (firsts cs) ∙ (λ i. any (λ d. other d (same c d) refl i) (firsts cs))
+    go false e = any-kept test (λ d. not (same c d)) (firsts cs) ∙ (λ i. anyOf (λ d. other d (same c d) refl i) (firsts cs))
       where
         other : (d : Product) (s : Bool) → same c d ≡ s → (not s && test d) ≡ test d
         other d true h = sym (ap test (sym (same-equal c d h)) ∙ e)
@@ -126,15 +126,15 @@ module _ (w : Window) (solids : List Primitive) (right : All Right solids) (p : 
   in-it s = insideSolid s p
 
   -- a point that is in each of some primitives is in what their boxes and the window have in common
-  in-cut : (xs : List Primitive) → All Right xs → all in-it xs ≡ true → holds (cut boxOf (windowBox w) xs) p ≡ true
-  unfolding all
+  in-cut : (xs : List Primitive) → All Right xs → allOf in-it xs ≡ true → holds (cut boxOf (windowBox w) xs) p ≡ true
+  unfolding allOf
   in-cut [] r h = held
   in-cut (s ∷ xs) r h =
       holds-common (boxOf s) (cut boxOf (windowBox w) xs) p
-      ∙ ap₂ _&&_ (box-holds s p (r .0) (and-left (in-it s) (all in-it xs) h)) (in-cut xs (r .1) (and-right (in-it s) (all in-it xs) h))
+      ∙ ap₂ _&&_ (box-holds s p (r .0) (and-left (in-it s) (allOf in-it xs) h)) (in-cut xs (r .1) (and-right (in-it s) (allOf in-it xs) h))
 
   -- a product whose uncomplemented primitives all hold the point
-  module _ (c : Product) (plain : all in-it (selected (c .plain) solids) ≡ true) where
+  module _ (c : Product) (plain : allOf in-it (selected (c .plain) solids) ≡ true) where
     in-product : holds (productBox w solids c) p ≡ true
     in-product = in-cut (selected (c .plain) solids) (all-selected Right solids (c .plain) right) plain
 
@@ -142,9 +142,9 @@ module _ (w : Window) (solids : List Primitive) (right : All Right solids) (p : 
     it-stays = holds-filled (productBox w solids c) p in-product
 
     -- no cut that is dropped holds the point
-    same-cuts : any in-it (selected (trimmed w solids c .cuts) solids) ≡ any in-it (selected (c .cuts) solids)
+    same-cuts : anyOf in-it (selected (trimmed w solids c .cuts) solids) ≡ anyOf in-it (selected (c .cuts) solids)
     same-cuts =
-        ap (any in-it) (selected-places reached solids (c .cuts))
+        ap (anyOf in-it) (selected-places reached solids (c .cuts))
         ∙ any-kept in-it reached (selected (c .cuts) solids)
         ∙ any-same (λ s. reached s && in-it s) in-it (selected (c .cuts) solids)
         (all-selected Reached solids (c .cuts) (all-map Right Reached reaches solids right))
@@ -167,26 +167,26 @@ module _ (w : Window) (solids : List Primitive) (right : All Right solids) (p : 
   -- a choice holds the point just if it stays and what is left of it, without the cuts that are dropped, holds the point
   choice-keeps : (c : Product) → (stays w solids c && insideProduct solids (trimmed w solids c) p) ≡ insideProduct solids c p
   unfolding insideProduct
-  choice-keeps c = go (all in-it (selected (c .plain) solids)) refl
+  choice-keeps c = go (allOf in-it (selected (c .plain) solids)) refl
     where
       cuts : Product → Bool
-      cuts d = any in-it (selected (d .cuts) solids)
+      cuts d = anyOf in-it (selected (d .cuts) solids)
 
-      go : (b : Bool) → all in-it (selected (c .plain) solids) ≡ b
+      go : (b : Bool) → allOf in-it (selected (c .plain) solids) ≡ b
           → (stays w solids c && (b && not (cuts (trimmed w solids c)))) ≡ (b && not (cuts c))
       go true e = ap₂ (λ (s b : Bool). s && not b) (it-stays c e) (same-cuts c e)
       go false e = and-false (stays w solids c)
 
   -- some product holds the point just if some choice does
   pub pruning-keeps : (tree : Tree)
-      → any (λ c. insideProduct solids c p) (products w solids tree) ≡ any (λ c. insideProduct solids c p) (choices inOf tree)
+      → anyOf (λ c. insideProduct solids c p) (products w solids tree) ≡ anyOf (λ c. insideProduct solids c p) (choices inOf tree)
   unfolding products
   pruning-keeps tree =
       let holding : Product → Bool = λ c. insideProduct solids c p in
       let cs = choices inOf tree in
       any-firsts holding (map (trimmed w solids) (keepIf (stays w solids) cs))
       ∙ any-made holding (trimmed w solids) (stays w solids) cs
-      ∙ (λ i. any (λ c. choice-keeps c i) cs)
+      ∙ (λ i. anyOf (λ c. choice-keeps c i) cs)
 
 -- ---- the primitives of a table
 

@@ -13,7 +13,7 @@ use lib.ListN.{length, getD, take, drop}
 use lib.Pow.{shr-shr}
 use lib.Seq.{take-suc, drop-cons, drop-length, length-take-le}
 use Rattle.ground.specs.Bits.{odd, selected, placesOf}
-use Rattle.ground.specs.Lists.{All, all, any, keepIf}
+use Rattle.ground.specs.Lists.{All, allOf, anyOf, keepIf}
 use Rattle.ground.specs.Tests.{if_then_else_}
 use Rattle.ground.proofs.Lists.{all-map}
 use Rattle.ground.proofs.Masks.{has, has-and, has-none, has-shifted, same-places}
@@ -24,7 +24,7 @@ use Rattle.rules.specs.Boxes.{windowBox, empty, share}
 use Rattle.rules.specs.Choices.{choices, inOf}
 use Rattle.rules.specs.Products.{boxOf, productBox, stays, trimmed, firsts, products}
 use Rattle.rules.specs.Tree.{Tree}
-use Rattle.laws.specs.Listing.{pruned, listing}
+use Rattle.laws.specs.Survivors.{pruned, survivors}
 use Rattle.laws.specs.Reach.{cutDown, reachIn, aliveIn}
 use Rattle.laws.proofs.Spaces.{share-all, left-pairwise}
 
@@ -106,8 +106,8 @@ module _ {A : Type 0} (test : A → Bool) where
       above false k n h = or-zero-r n ∙ omega arith
 
   -- a set lies within the places just if the test holds of all that it selects
-  pub chosen-places : (xs : List A) (chosen : ℕ) → chosen < 2 ^ length xs → eqb (bitAnd chosen (placesOf test xs)) chosen ≡ all test (selected chosen xs)
-  unfolding placesOf selected all
+  pub chosen-places : (xs : List A) (chosen : ℕ) → chosen < 2 ^ length xs → eqb (bitAnd chosen (placesOf test xs)) chosen ≡ allOf test (selected chosen xs)
+  unfolding placesOf selected allOf
   chosen-places [] chosen h = eq-eqb (bitAnd chosen 0) chosen (and-zero-r chosen ∙ omega arith)
   chosen-places (x ∷ xs) chosen h =
       ap (λ (n : ℕ). eqb n chosen) (and-digit chosen (test x) (placesOf test xs))
@@ -127,14 +127,14 @@ module _ {A : Type 0} (test : A → Bool) where
           let z : chosen % 2 ≡ 0 = omega arith in
           eqb-same (0 + 2 * n) chosen n (chosen / 2) (λ k. omega arith) (λ k. omega arith)
 
-      take-in : (o : Bool) → ((if o then test x else true) && all test (selected (chosen / 2) xs))
-          ≡ all test (if o then x ∷ selected (chosen / 2) xs else selected (chosen / 2) xs)
+      take-in : (o : Bool) → ((if o then test x else true) && allOf test (selected (chosen / 2) xs))
+          ≡ allOf test (if o then x ∷ selected (chosen / 2) xs else selected (chosen / 2) xs)
       take-in true = refl
       take-in false = refl
 
   -- and has none of them just if the test holds of none that it selects
-  pub chosen-none : (xs : List A) (chosen : ℕ) → eqb (bitAnd chosen (placesOf test xs)) 0 ≡ not (any test (selected chosen xs))
-  unfolding placesOf selected any
+  pub chosen-none : (xs : List A) (chosen : ℕ) → eqb (bitAnd chosen (placesOf test xs)) 0 ≡ not (anyOf test (selected chosen xs))
+  unfolding placesOf selected anyOf
   chosen-none [] chosen = eq-eqb (bitAnd chosen 0) 0 (and-zero-r chosen)
   chosen-none (x ∷ xs) chosen =
       ap (λ (n : ℕ). eqb n 0) (and-digit chosen (test x) (placesOf test xs))
@@ -144,12 +144,12 @@ module _ {A : Type 0} (test : A → Bool) where
       later : List A
       later = selected (chosen / 2) xs
 
-      go : (o b : Bool) (n : ℕ) → eqb n 0 ≡ not (any test later) → eqb (digit (o && b) + 2 * n) 0 ≡ not ((o && b) || any test later)
+      go : (o b : Bool) (n : ℕ) → eqb n 0 ≡ not (anyOf test later) → eqb (digit (o && b) + 2 * n) 0 ≡ not ((o && b) || anyOf test later)
       go true true n e = ne-eqb (1 + 2 * n) 0 (λ k. omega arith)
       go true false n e = eqb-same (0 + 2 * n) 0 n 0 (λ k. omega arith) (λ k. omega arith) ∙ e
       go false b n e = eqb-same (0 + 2 * n) 0 n 0 (λ k. omega arith) (λ k. omega arith) ∙ e
 
-      taken : (o : Bool) → ((o && test x) || any test later) ≡ any test (if o then x ∷ later else later)
+      taken : (o : Bool) → ((o && test x) || anyOf test later) ≡ anyOf test (if o then x ∷ later else later)
       taken true = refl
       taken false = refl
 
@@ -164,8 +164,8 @@ module _ {A : Type 0} where
 
   -- cut by each chosen one, the places are those of the elements that meet each chosen one
   cut-places : (meet : A → A → Bool) (xs ts : List A) (chosen : ℕ) (test : A → Bool)
-      → cutDown (map (λ t. placesOf (λ s. meet s t) xs) ts) chosen (placesOf test xs) ≡ placesOf (λ s. all (meet s) (selected chosen ts) && test s) xs
-  unfolding cutDown selected all
+      → cutDown (map (λ t. placesOf (λ s. meet s t) xs) ts) chosen (placesOf test xs) ≡ placesOf (λ s. allOf (meet s) (selected chosen ts) && test s) xs
+  unfolding cutDown selected allOf
   cut-places meet xs [] chosen test = refl
   cut-places meet xs (t ∷ ts) chosen test = go (odd chosen) (cut-places meet xs ts (chosen / 2))
     where
@@ -173,13 +173,13 @@ module _ {A : Type 0} where
       rows = map (λ u. placesOf (λ s. meet s u) xs) ts
 
       go : (o : Bool)
-          → ((test : A → Bool) → cutDown rows (chosen / 2) (placesOf test xs) ≡ placesOf (λ s. all (meet s) (selected (chosen / 2) ts) && test s) xs)
+          → ((test : A → Bool) → cutDown rows (chosen / 2) (placesOf test xs) ≡ placesOf (λ s. allOf (meet s) (selected (chosen / 2) ts) && test s) xs)
           → cutDown rows (chosen / 2) (if o then bitAnd (placesOf (λ s. meet s t) xs) (placesOf test xs) else placesOf test xs)
-          ≡ placesOf (λ s. all (meet s) (if o then t ∷ selected (chosen / 2) ts else selected (chosen / 2) ts) && test s) xs
+          ≡ placesOf (λ s. allOf (meet s) (if o then t ∷ selected (chosen / 2) ts else selected (chosen / 2) ts) && test s) xs
       go true rest =
           ap (cutDown rows (chosen / 2)) (places-and (λ s. meet s t) test xs)
           ∙ rest (λ s. meet s t && test s)
-          ∙ (λ i. placesOf (λ s. turn (all (meet s) (selected (chosen / 2) ts)) (meet s t) (test s) i) xs)
+          ∙ (λ i. placesOf (λ s. turn (allOf (meet s) (selected (chosen / 2) ts)) (meet s t) (test s) i) xs)
         where
           turn : (p q r : Bool) → (p && (q && r)) ≡ ((q && p) && r)
           turn p q r = sym (and-assoc p q r) ∙ ap (λ (b : Bool). b && r) (and-comm p q)
@@ -202,7 +202,7 @@ module _ {A : Type 0} where
 
 module _ (w : Window) (solids : List Primitive) where
   abbrev inReach : ℕ → Primitive → Bool
-  inReach chosen s = all (λ t. share (boxOf s) (boxOf t)) (selected chosen solids) && share (boxOf s) (windowBox w)
+  inReach chosen s = allOf (λ t. share (boxOf s) (boxOf t)) (selected chosen solids) && share (boxOf s) (windowBox w)
 
   reach-places : (chosen : ℕ) → reachIn w solids chosen ≡ placesOf (inReach chosen) solids
   reach-places chosen = cut-places (λ s t. share (boxOf s) (boxOf t)) solids solids chosen (λ s. share (boxOf s) (windowBox w))
@@ -224,10 +224,10 @@ module _ (w : Window) (solids : List Primitive) where
         ∙ sym (chosen-places (inReach (c .plain)) solids (c .plain) l)
         ∙ ap (λ (r : ℕ). eqb (bitAnd (c .plain) r) (c .plain)) (sym (reach-places (c .plain)))
 
-    pub products-listing : (tree : Tree) → All (λ c. c .plain < 2 ^ length solids) (choices inOf tree)
-        → products w solids tree ≡ listing (aliveIn w solids) (reachIn w solids) (choices inOf tree)
-    unfolding products listing
-    products-listing tree h = ap firsts (kept-same (stays w solids) (λ c. aliveIn w solids (c .plain)) (trimmed w solids) prune (choices inOf tree) agree)
+    pub products-survivors : (tree : Tree) → All (λ c. c .plain < 2 ^ length solids) (choices inOf tree)
+        → products w solids tree ≡ survivors (aliveIn w solids) (reachIn w solids) (choices inOf tree)
+    unfolding products survivors
+    products-survivors tree h = ap firsts (kept-same (stays w solids) (λ c. aliveIn w solids (c .plain)) (trimmed w solids) prune (choices inOf tree) agree)
       where
         prune : Product → Product
         prune = pruned (aliveIn w solids) (reachIn w solids)

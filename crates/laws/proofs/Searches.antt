@@ -8,7 +8,7 @@ use mathlib.Core.Option.{Option, none, some}
 use mathlib.Core.Path.{_≡_, sym, subst}
 use lib.IntN.{ℤ}
 use lib.ListN.{length}
-use Rattle.ground.specs.Lists.{from, below, any, countIf, findIf}
+use Rattle.ground.specs.Lists.{from, below, anyOf, countIf, findIf}
 use Rattle.ground.specs.Tests.{Says, if_then_else_}
 use Rattle.rules.specs.declared.Place.{Place}
 use Rattle.rules.specs.declared.Point.{Point}
@@ -178,7 +178,7 @@ module _ (isInside : Point → Bool) (Holds : Point → Type 0) (says : (p : Poi
 
   -- the column of a sample holds one code, its own
   sample-says : (k : ℕ) → Says (test k) (In k)
-  unfolding any
+  unfolding anyOf
   sample-says k = let p = pointOf place k (codeAt samples k) in subst (λ (b : Bool). Says b (Holds p)) (sym (or-false (isInside p))) (says p)
 
   pub search-finds : {Meets : Searched → Type 0} (x : Option Refusal)

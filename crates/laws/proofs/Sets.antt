@@ -18,7 +18,7 @@ use Rattle.rules.specs.Told.{fine, toldLocated}
 use Rattle.rules.specs.TreeCalls.{pointRefusal, pointTale, TreeLocated}
 use Rattle.rules.proofs.Told.{located-once}
 use Rattle.laws.specs.Sets.{InSet}
-use Rattle.laws.proofs.Answers.{told-later, told-fine, holds-point}
+use Rattle.laws.proofs.Telling.{told-later, told-fine, holds-point}
 
 says-or : (a b : Bool) (X Y : Type 0) → Says a X → Says b Y → Says (a || b) (X ⊎ Y)
 says-or true b X Y x y = inl x

@@ -16,7 +16,7 @@ use Rattle.rules.specs.declared.Kind.the-variants as kind
 use Rattle.rules.specs.declared.Row.{Row}
 use Rattle.rules.specs.declared.Row.the-variants.{Union, Inter, Diff}
 use Rattle.rules.specs.Table.{rowWords, mostRows, rowCount, wordAt, operation, rowBy, kindAt}
-use Rattle.rules.specs.Fields.{fieldsRight, spareRight, earlier, childrenRight}
+use Rattle.rules.specs.Fields.{fieldsRight, spareRight, isEarlier, childrenRight}
 use Rattle.rules.specs.Refusals.{refuseIf, refuseUnless}
 use Rattle.rules.specs.Verdict.{lengthRefusal, rowRefusal, rowRefusalBy, rowsRefusal, childOnce, childRefusal, tableRefusal}
 use Rattle.laws.specs.Sound.{RowRight, SoundRow, Sound}
@@ -44,7 +44,7 @@ record Kept (x : Option Kind) (w : ℕ → ℤ) (row : ℕ) : Type 0 where
   right : RowRight row reads
 
 op-kept : (op : ℕ → ℕ → Row) (a b : ℤ) (row : ℕ) → ((l r : ℕ) → (l < row) × (r < row) → RowRight row (op l r))
-    → (earlier row a && earlier row b) ≡ true → (r : Row) × (operation op a b ≡ some r) × RowRight row r
+    → (isEarlier row a && isEarlier row b) ≡ true → (r : Row) × (operation op a b ≡ some r) × RowRight row r
 op-kept op (pos l) (pos r) row f h = (op l r, refl, f l r (ltb-true l row (and-left (ltb l row) (ltb r row) h), ltb-true r row (and-right (ltb l row) (ltb r row) h)))
 op-kept op (pos l) (negsuc r) row f h = false-true (and-right (ltb l row) false h)
 op-kept op (negsuc l) b row f h = false-true h

@@ -8,7 +8,7 @@ use borrow.Author.Tests.{leb-false, le-leb, lt-ltb, leb-true, le-ltb}
 use lib.Dec.{leb, ltb}
 use lib.IntN.{ℤ, pos, negsuc}
 use lib.Signed.{leZ, ltZ}
-use Rattle.ground.specs.Lists.{all}
+use Rattle.ground.specs.Lists.{allOf}
 use Rattle.ground.specs.Tests.{if_then_else_}
 use Rattle.ground.proofs.Branches.{false-true, and-left, and-right}
 use Rattle.ground.proofs.Order.{leZ-trans}
@@ -164,10 +164,10 @@ share-both s a b h =
 
 -- ---- lists of boxes
 
-all-and : {A : Type 0} (p q : A → Bool) (xs : List A) → all (λ x. p x && q x) xs ≡ (all p xs && all q xs)
-unfolding all
+all-and : {A : Type 0} (p q : A → Bool) (xs : List A) → allOf (λ x. p x && q x) xs ≡ (allOf p xs && allOf q xs)
+unfolding allOf
 all-and p q [] = refl
-all-and p q (x ∷ xs) = ap (λ (b : Bool). (p x && q x) && b) (all-and p q xs) ∙ and-swap (p x) (q x) (all p xs) (all q xs)
+all-and p q (x ∷ xs) = ap (λ (b : Bool). (p x && q x) && b) (all-and p q xs) ∙ and-swap (p x) (q x) (allOf p xs) (allOf q xs)
 
 -- a box, cut with the boxes of a list
 module _ {A : Type 0} (box : A → Box) (start : Box) where
@@ -175,34 +175,34 @@ module _ {A : Type 0} (box : A → Box) (start : Box) where
   cut xs = foldr (λ x b. commonBox (box x) b) start xs
 
   -- it shares a point with another just if that shares one with each of them
-  pub share-all : (b : Box) (xs : List A) → not (empty (cut xs)) ≡ true → share b (cut xs) ≡ (all (λ x. share b (box x)) xs && share b start)
-  unfolding all
+  pub share-all : (b : Box) (xs : List A) → not (empty (cut xs)) ≡ true → share b (cut xs) ≡ (allOf (λ x. share b (box x)) xs && share b start)
+  unfolding allOf
   share-all b [] h = refl
   share-all b (x ∷ xs) h =
       share-both b (box x) (cut xs) h
       ∙ ap (λ (t : Bool). share b (box x) && t) (share-all b xs (share-filled (box x) (cut xs) h))
-      ∙ sym (and-assoc (share b (box x)) (all (λ y. share b (box y)) xs) (share b start))
+      ∙ sym (and-assoc (share b (box x)) (allOf (λ y. share b (box y)) xs) (share b start))
 
   -- each of the list shares a point with each, and with the box that they cut
   abbrev pub pairwise : List A → Bool
-  pairwise xs = all (λ x. all (λ y. share (box x) (box y)) xs && share (box x) start) xs
+  pairwise xs = allOf (λ x. allOf (λ y. share (box x) (box y)) xs && share (box x) start) xs
 
   -- there is something left just if each two share a point
   pub left-pairwise : not (empty start) ≡ true → (xs : List A) → not (empty (cut xs)) ≡ pairwise xs
-  unfolding all
+  unfolding allOf
   left-pairwise h [] = h
-  left-pairwise h (x ∷ xs) = first ∙ ap (λ (t : Bool). own && (all withX xs && t)) (left-pairwise h xs) ∙ ap (λ (t : Bool). own && t) (sym others)
+  left-pairwise h (x ∷ xs) = first ∙ ap (λ (t : Bool). own && (allOf withX xs && t)) (left-pairwise h xs) ∙ ap (λ (t : Bool). own && t) (sym others)
     where
       withX : A → Bool
       withX y = share (box x) (box y)
 
       own : Bool
-      own = (withX x && all withX xs) && share (box x) start
+      own = (withX x && allOf withX xs) && share (box x) start
 
-      others : all (λ u. (share (box u) (box x) && all (λ y. share (box u) (box y)) xs) && share (box u) start) xs ≡ (all withX xs && pairwise xs)
+      others : allOf (λ u. (share (box u) (box x) && allOf (λ y. share (box u) (box y)) xs) && share (box u) start) xs ≡ (allOf withX xs && pairwise xs)
       others =
-          (λ i. all (λ u. and-assoc (share-sym (box u) (box x) i) (all (λ y. share (box u) (box y)) xs) (share (box u) start) i) xs)
-          ∙ all-and withX (λ u. all (λ y. share (box u) (box y)) xs && share (box u) start) xs
+          (λ i. allOf (λ u. and-assoc (share-sym (box u) (box x) i) (allOf (λ y. share (box u) (box y)) xs) (share (box u) start) i) xs)
+          ∙ all-and withX (λ u. allOf (λ y. share (box u) (box y)) xs && share (box u) start) xs
 
       step : (l p s o t : Bool) → (t ≡ true → l ≡ (p && s)) → (l ≡ true → t ≡ true) → (s ≡ true → o ≡ true) → l ≡ (((o && p) && s) && (p && t))
       step l p s o true f g k = f refl ∙ same p s o k
@@ -214,8 +214,8 @@ module _ {A : Type 0} (box : A → Box) (start : Box) where
       step true p s o false f g k = false-true (g refl)
       step false p s o false f g k = rw (and-false p, and-false ((o && p) && s))
 
-      first : share (box x) (cut xs) ≡ (own && (all withX xs && not (empty (cut xs))))
+      first : share (box x) (cut xs) ≡ (own && (allOf withX xs && not (empty (cut xs))))
       first =
           let f = share-all (box x) xs in
           let g = share-filled (box x) (cut xs) in
-          step (share (box x) (cut xs)) (all withX xs) (share (box x) start) (withX x) (not (empty (cut xs))) f g (share-self (box x) start)
+          step (share (box x) (cut xs)) (allOf withX xs) (share (box x) start) (withX x) (not (empty (cut xs))) f g (share-self (box x) start)

@@ -25,7 +25,7 @@ use Rattle.rules.specs.Told.{tell}
 use Rattle.rules.specs.TreeCalls.{searchTale}
 use Rattle.rules.specs.Verdict.{tableRefusal}
 use Rattle.rules.proofs.Told.{searched-once}
-use Rattle.laws.proofs.Answering.{checks-pass, sampleHeld, sampleRule, held-upto}
+use Rattle.laws.proofs.ListAsTree.{checks-pass, sampleHeld, sampleRule, held-upto}
 use Rattle.laws.proofs.Soundness.{unless-kept}
 
 -- whoever meets the record of the search over a list

@@ -9,7 +9,7 @@ use borrow.Author.Tests.{le-leb}
 use lib.IntN.{ℤ, pos}
 use lib.ListN.{length, getD, take, drop, replicate, length-append, length-map, length-take, length-drop, length-replicate, List·getD-append}
 use lib.Seq.{take-all, take-add, take-at, take-append-seam, getD-take, getD-drop}
-use Rattle.ground.specs.Lists.{from, rest, below, all, firstOf, All}
+use Rattle.ground.specs.Lists.{from, rest, below, allOf, firstOf, All}
 use Rattle.ground.specs.Tests.{eqZ}
 use Rattle.ground.proofs.Branches.{and-left, and-right}
 use Rattle.ground.proofs.Counting.{rulings-none, first-kept}
@@ -36,7 +36,7 @@ use Rattle.rules.proofs.Settled.{form-once}
 use Rattle.rules.proofs.Told.{written-once, wrote-none}
 use Rattle.laws.specs.Sound.{Sound}
 use Rattle.laws.proofs.Apart.{next-row}
-use Rattle.laws.proofs.Numbering.{number-kind, kind-number}
+use Rattle.laws.proofs.KindNumbers.{number-kind, kind-number}
 use Rattle.laws.proofs.Soundness.{unless-kept, table-sound}
 use Rattle.laws.proofs.TextLengths.{few-named, Named, text-most}
 
@@ -47,11 +47,11 @@ abbrev rowText : List ℤ → ℕ → List TextRow
 rowText t row = textRowBy (kindAt t row) (wordAt t row)
 
 -- spare words that are right are 0
-zeros : (w : ℕ → ℤ) (start n : ℕ) → all (λ i. eqZ (w i) (pos 0)) (from start n) ≡ true → map w (from start n) ≡ replicate n (pos 0)
-unfolding from all
+zeros : (w : ℕ → ℤ) (start n : ℕ) → allOf (λ i. eqZ (w i) (pos 0)) (from start n) ≡ true → map w (from start n) ≡ replicate n (pos 0)
+unfolding from allOf
 zeros w start zero h = refl
 zeros w start (suc n) h =
-    let others = all (λ i. eqZ (w i) (pos 0)) (from (suc start) n) in
+    let others = allOf (λ i. eqZ (w i) (pos 0)) (from (suc start) n) in
     let first : w start ≡ pos 0 = eqZ-eq (w start) (pos 0) (and-left (eqZ (w start) (pos 0)) others h) in
     let later : map w (from (suc start) n) ≡ replicate n (pos 0) = zeros w (suc start) n (and-right (eqZ (w start) (pos 0)) others h) in
     λ i. first i ∷ later i

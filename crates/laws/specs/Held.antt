@@ -5,7 +5,7 @@ use mathlib.Core.List.{List}
 use lib.Bits.{bitAnd}
 use lib.Dec.{eqb}
 use Rattle.ground.specs.Bits.{placesOf}
-use Rattle.ground.specs.Lists.{below, any}
+use Rattle.ground.specs.Lists.{below, anyOf}
 use Rattle.rules.specs.declared.Point.{Point}
 use Rattle.rules.specs.declared.Primitive.{Primitive}
 use Rattle.rules.specs.declared.Product.{Product}
@@ -22,4 +22,4 @@ suits set c = eqb (bitAnd (c .plain) set) (c .plain) && eqb (bitAnd (c .cuts) se
 
 -- it suits some product of a list
 abbrev pub suitsSome : List ℕ → ℕ → Bool
-suitsSome list set = any (λ k. suits set (productAt list k)) (below (productCount list))
+suitsSome list set = anyOf (λ k. suits set (productAt list k)) (below (productCount list))

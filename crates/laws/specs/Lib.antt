@@ -1,10 +1,10 @@
 pub mod Sound
-pub mod Answers
+pub mod Checking
 pub mod Sets
 pub mod Plans
-pub mod Listing
+pub mod Survivors
 pub mod Reach
-pub mod Listed
+pub mod EachOnce
 pub mod SoundList
 pub mod Held
 pub mod Possible

@@ -34,7 +34,7 @@ use Rattle.rules.specs.TextForm.{Word32, TextForm}
 use Rattle.rules.specs.Tree.{treeOf}
 use Rattle.rules.specs.TreeCalls.{pointRefusal, TableChecked, treePointRefusal, TreeLocated, treeSearchRefusal, TreeSearched}
 use Rattle.rules.specs.Verdict.{tableRefusal}
-use Rattle.laws.specs.Listed.{Listed}
+use Rattle.laws.specs.EachOnce.{EachOnce}
 use Rattle.laws.specs.Sets.{InSet}
 
 -- ==== Promise 1
@@ -201,7 +201,7 @@ pub record Promise3 (t : List ℤ) (w : Window) (before after : List ℕ) (r : W
   -- The list is exactly what remains when every way of choosing is written out first and pruned afterwards, word for word, ..
   pub exactly : {n : ℕ} → r ≡ written.Wrote n → take n after ≡ listOf w (length (primitives t)) (prunedAfterwards t w)
   -- .. so that it has each distinct product once, in order, none besides (`Listed` says so, product by product).
-  pub each-once : {n : ℕ} → r ≡ written.Wrote n → Listed t w after
+  pub each-once : {n : ℕ} → r ≡ written.Wrote n → EachOnce t w after
   -- Words after it stay.
   pub rest-stays : {n : ℕ} → r ≡ written.Wrote n → (i : ℕ) → n ≤ i → word after i ≡ word before i
   -- If it does not fit, the refusal names the room, and the buffer is as it was.

@@ -16,12 +16,12 @@ use Rattle.ground.proofs.Writes.{sets-append}
 use Rattle.rules.specs.declared.Product.{Product}
 use Rattle.rules.specs.ListWords.{wordsOf}
 use Rattle.laws.specs.Plans.{Plan, ways, count, kth, fresh, Apart}
-use Rattle.laws.specs.Listing.{pruned, listing}
+use Rattle.laws.specs.Survivors.{pruned, survivors}
 use Rattle.laws.proofs.Ways.{ways-count}
-use Rattle.laws.proofs.Listing.{listing-next, listing-all, listing-none, listing-length, listing-grows}
+use Rattle.laws.proofs.Survivors.{survivors-next, survivors-all, survivors-none, survivors-length, survivors-grows}
 use Rattle.choice.specs.Steps.{Remembered}
 use Rattle.laws.proofs.Words.{words-length}
-use Rattle.list.specs.Growth.{reachBy, aliveBy, listed, Ready}
+use Rattle.list.specs.Growth.{reachBy, aliveBy, survivorsTo, Ready}
 
 module _ (meets : List ℕ) (primitives seen : ℕ) (p : Plan) where
   abbrev reach : ℕ → ℕ
@@ -31,46 +31,46 @@ module _ (meets : List ℕ) (primitives seen : ℕ) (p : Plan) where
   alive = aliveBy meets primitives seen
 
   -- no way yet, and all of them
-  pub listed-none : listed meets primitives seen p 0 ≡ []
-  unfolding listed
-  listed-none = listing-none alive reach (ways p)
+  pub survivors-to-none : survivorsTo meets primitives seen p 0 ≡ []
+  unfolding survivorsTo
+  survivors-to-none = survivors-none alive reach (ways p)
 
-  pub listed-all : listed meets primitives seen p (count p) ≡ listing alive reach (ways p)
-  unfolding listed
-  listed-all = ap (listing alive reach) (listing-all p)
+  pub survivors-to-all : survivorsTo meets primitives seen p (count p) ≡ survivors alive reach (ways p)
+  unfolding survivorsTo
+  survivors-to-all = ap (survivors alive reach) (survivors-all p)
 
   -- no more products than ways, nor than there are in the end
-  pub listed-length : (k : ℕ) → k ≤ count p → length (listed meets primitives seen p k) ≤ k
-  unfolding listed
-  listed-length k h = omega (arith, listing-length alive reach (take k (ways p)), length-take-le k (ways p) (rw (ways-count p) h))
+  pub survivors-to-length : (k : ℕ) → k ≤ count p → length (survivorsTo meets primitives seen p k) ≤ k
+  unfolding survivorsTo
+  survivors-to-length k h = omega (arith, survivors-length alive reach (take k (ways p)), length-take-le k (ways p) (rw (ways-count p) h))
 
-  pub listed-grows : (k : ℕ) → length (listed meets primitives seen p k) ≤ length (listed meets primitives seen p (count p))
-  unfolding listed
-  listed-grows k = omega (arith, listing-grows alive reach (ways p) k, ap (λ (cs : List Product). length (listing alive reach cs)) (listing-all p))
+  pub survivors-to-grows : (k : ℕ) → length (survivorsTo meets primitives seen p k) ≤ length (survivorsTo meets primitives seen p (count p))
+  unfolding survivorsTo
+  survivors-to-grows k = omega (arith, survivors-grows alive reach (ways p) k, ap (λ (cs : List Product). length (survivors alive reach cs)) (survivors-all p))
 
   module _ (apart : Apart p) (k : ℕ) (h : k < count p) {c : Product} (e : c ≡ kth p k) {r : ℕ} (is : r ≡ reach (c .plain)) where
-    next : listed meets primitives seen p (k + 1)
-        ≡ listed meets primitives seen p k ++ (if alive (c .plain) && fresh p k (reach (c .plain)) then pruned alive reach c ∷ [] else [])
-    unfolding listed
+    next : survivorsTo meets primitives seen p (k + 1)
+        ≡ survivorsTo meets primitives seen p k ++ (if alive (c .plain) && fresh p k (reach (c .plain)) then pruned alive reach c ∷ [] else [])
+    unfolding survivorsTo
     next =
-        ap (λ (j : ℕ). listing alive reach (take j (ways p))) (add-one k) ∙ listing-next alive reach p apart k h
-        ∙ ap (λ (d : Product). listing alive reach (take k (ways p)) ++ (if alive (d .plain) && fresh p k (reach (d .plain)) then pruned alive reach d ∷ [] else [])) (sym e)
+        ap (λ (j : ℕ). survivors alive reach (take j (ways p))) (add-one k) ∙ survivors-next alive reach p apart k h
+        ∙ ap (λ (d : Product). survivors alive reach (take k (ways p)) ++ (if alive (d .plain) && fresh p k (reach (d .plain)) then pruned alive reach d ∷ [] else [])) (sym e)
 
     is-alive : bitAnd (c .plain) r ≡ c .plain → alive (c .plain) ≡ true
     is-alive a = eq-eqb (bitAnd (c .plain) (reach (c .plain))) (c .plain) (ap (bitAnd (c .plain)) (sym is) ∙ a)
 
     -- the product's box is empty; an earlier way comes to the same; and else
-    pub way-dropped : (bitAnd (c .plain) r ≡ c .plain → ⊥) → listed meets primitives seen p (k + 1) ≡ listed meets primitives seen p k ++ []
+    pub way-dropped : (bitAnd (c .plain) r ≡ c .plain → ⊥) → survivorsTo meets primitives seen p (k + 1) ≡ survivorsTo meets primitives seen p k ++ []
     way-dropped a = next ∙ rw (ne-eqb (bitAnd (c .plain) (reach (c .plain))) (c .plain) (λ g. a (ap (bitAnd (c .plain)) is ∙ g)))
 
-    pub way-repeated : bitAnd (c .plain) r ≡ c .plain → fresh p k r ≡ false → listed meets primitives seen p (k + 1) ≡ listed meets primitives seen p k ++ []
+    pub way-repeated : bitAnd (c .plain) r ≡ c .plain → fresh p k r ≡ false → survivorsTo meets primitives seen p (k + 1) ≡ survivorsTo meets primitives seen p k ++ []
     way-repeated a f = next ∙ rw (is-alive a, ap (fresh p k) (sym is) ∙ f)
 
     pub way-stays : bitAnd (c .plain) r ≡ c .plain → fresh p k r ≡ true
-        → listed meets primitives seen p (k + 1) ≡ listed meets primitives seen p k ++ (record { plain = c .plain; cuts = bitAnd (c .cuts) r } ∷ [])
+        → survivorsTo meets primitives seen p (k + 1) ≡ survivorsTo meets primitives seen p k ++ (record { plain = c .plain; cuts = bitAnd (c .cuts) r } ∷ [])
     way-stays a f =
         next ∙ rw (is-alive a, ap (fresh p k) (sym is) ∙ f)
-        (ap (λ (x : ℕ). listed meets primitives seen p k ++ (record { plain = c .plain; cuts = bitAnd (c .cuts) x } ∷ [])) (sym is))
+        (ap (λ (x : ℕ). survivorsTo meets primitives seen p k ++ (record { plain = c .plain; cuts = bitAnd (c .cuts) x } ∷ [])) (sym is))
 
 -- ---- words of products
 

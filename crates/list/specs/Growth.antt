@@ -13,7 +13,7 @@ use Rattle.rules.specs.Table.{rowCount}
 use Rattle.rules.specs.ListWords.{columnOffset, codeOffset, frameOffset, raised}
 use Rattle.laws.specs.Sound.{Sound}
 use Rattle.laws.specs.Plans.{Plan, ways}
-use Rattle.laws.specs.Listing.{listing}
+use Rattle.laws.specs.Survivors.{survivors}
 use Rattle.laws.specs.Reach.{cutDown}
 use Rattle.choice.specs.Steps.{planAt, Numbered, Remembered}
 use Rattle.list.specs.declared.Gain.{Gain}
@@ -35,8 +35,8 @@ module _ (meets : List ℕ) (primitives seen : ℕ) where
   abbrev pub aliveBy : ℕ → Bool
   aliveBy chosen = eqb (bitAnd chosen (reachBy chosen)) chosen
 
-  unfoldable pub listed : Plan → ℕ → List Product
-  listed p k = listing aliveBy reachBy (take k (ways p))
+  unfoldable pub survivorsTo : Plan → ℕ → List Product
+  survivorsTo p k = survivors aliveBy reachBy (take k (ways p))
 
 -- what the loops build on
 pub record Ready (t : List ℤ) (bits counts meets : List ℕ) (primitives : ℕ) : Type 0 where

@@ -18,10 +18,10 @@ ghost use Rattle.rules.specs.Verdict.{tableRefusal};
 ghost use Rattle.rules.specs.ListWords.{raised, wordsOf};
 ghost use Rattle.rules.specs.ListCalls.{windowRefusal, ListMade};
 ghost use Rattle.rules.specs.Refusals.{refuseUnless};
-ghost use Rattle.laws.specs.Answers.{checkedBy};
+ghost use Rattle.laws.specs.Checking.{checkedBy};
 ghost use Rattle.laws.specs.Plans.{count};
 ghost use Rattle.choice.specs.Steps.{Numbered, Remembered};
-ghost use Rattle.list.specs.Growth.{gained, rootPlan, listed, Ready, Measured, header};
+ghost use Rattle.list.specs.Growth.{gained, rootPlan, survivorsTo, Ready, Measured, header};
 
 // What a way of choosing adds to the list.
 pub enum Gain {
@@ -41,7 +41,7 @@ fn try_way(
 ) -> Gain
     requires { ⌜ Ready (now table) (now bits) (now counts) (now meets) primitives ⌝ }
     requires { ⌜ k < count (rootPlan (now table)) ⌝ }
-    ensures { λ r. ⌜ (listed (now (meets .entry)) primitives seen (rootPlan (now (table .entry))) (k + 1) ≡ listed (now (meets .entry)) primitives seen (rootPlan (now (table .entry))) k ++ gained r) × Remembered (now (table .entry)) (now (counts .exit)) ⌝ }
+    ensures { λ r. ⌜ (survivorsTo (now (meets .entry)) primitives seen (rootPlan (now (table .entry))) (k + 1) ≡ survivorsTo (now (meets .entry)) primitives seen (rootPlan (now (table .entry))) k ++ gained r) × Remembered (now (table .entry)) (now (counts .exit)) ⌝ }
 {
     let root = table.len() / rules::ROW_WORDS - 1;
     let c = choice::choose(table, bits, counts, root, true, k);
@@ -82,7 +82,7 @@ fn tally(
 ) -> usize
     requires { ⌜ Ready (now table) (now bits) (now counts) (now meets) primitives ⌝ }
     requires { ⌜ (ways ≡ count (rootPlan (now table))) × (ways ≤ 65536) ⌝ }
-    ensures { λ r. ⌜ (r ≡ length (listed (now (meets .entry)) primitives seen (rootPlan (now (table .entry))) ways)) × Remembered (now (table .entry)) (now (counts .exit)) ⌝ }
+    ensures { λ r. ⌜ (r ≡ length (survivorsTo (now (meets .entry)) primitives seen (rootPlan (now (table .entry))) ways)) × Remembered (now (table .entry)) (now (counts .exit)) ⌝ }
 {
     let mut n: usize = 0;
     let mut k: u64 = 0;
@@ -123,8 +123,8 @@ fn write_products(
 ) -> usize
     requires { ⌜ Ready (now table) (now bits) (now counts) (now meets) primitives ⌝ }
     requires { ⌜ (ways ≡ count (rootPlan (now table))) × (ways ≤ 65536) ⌝ }
-    requires { ⌜ 8 + 2 * length (listed (now meets) primitives seen (rootPlan (now table)) ways) ≤ length (now list) ⌝ }
-    ensures { λ r. ⌜ (r ≡ length (listed (now (meets .entry)) primitives seen (rootPlan (now (table .entry))) ways)) × (now (list .exit) ≡ sets (now (list .entry)) 8 (flatMap wordsOf (listed (now (meets .entry)) primitives seen (rootPlan (now (table .entry))) ways))) ⌝ }
+    requires { ⌜ 8 + 2 * length (survivorsTo (now meets) primitives seen (rootPlan (now table)) ways) ≤ length (now list) ⌝ }
+    ensures { λ r. ⌜ (r ≡ length (survivorsTo (now (meets .entry)) primitives seen (rootPlan (now (table .entry))) ways)) × (now (list .exit) ≡ sets (now (list .entry)) 8 (flatMap wordsOf (survivorsTo (now (meets .entry)) primitives seen (rootPlan (now (table .entry))) ways))) ⌝ }
 {
     let mut n: usize = 0;
     let mut k: u64 = 0;
@@ -172,7 +172,7 @@ fn measure(
 ) -> usize
     requires { ⌜ Ready (now table) (now bits) (now counts) (now meets) primitives ⌝ }
     requires { ⌜ (ways ≡ count (rootPlan (now table))) × (ways ≤ 65536) ⌝ }
-    ensures { λ r. ⌜ Measured (8 + 2 * length (listed (now (meets .entry)) primitives seen (rootPlan (now (table .entry))) ways)) room r × Remembered (now (table .entry)) (now (counts .exit)) ⌝ }
+    ensures { λ r. ⌜ Measured (8 + 2 * length (survivorsTo (now (meets .entry)) primitives seen (rootPlan (now (table .entry))) ways)) room r × Remembered (now (table .entry)) (now (counts .exit)) ⌝ }
 {
     let most = 8 + 2 * (ways as usize);
     if most <= room {

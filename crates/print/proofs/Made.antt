@@ -24,7 +24,7 @@ use Rattle.rules.specs.Table.{primitives}
 use Rattle.rules.specs.Tree.{treeOf}
 use Rattle.rules.specs.Verdict.{tableRefusal}
 use Rattle.rules.proofs.Told.{wrote-none, refused-some}
-use Rattle.laws.proofs.Promise.{is-over, list-right}
+use Rattle.laws.proofs.Buffers.{is-over, list-right}
 use Rattle.laws.proofs.Soundness.{unless-kept}
 use Rattle.laws.proofs.Words.{list-length, zone-products}
 use Rattle.print.specs.Lines.{tableListing}

@@ -4,7 +4,7 @@ use mathlib.Core.Path.{_≡_, refl}
 use mathlib.Core.List.{List, [], _∷_, map, flatMap}
 use lib.IntN.{ℤ, pos, negsuc}
 use Rattle.ground.specs.Bits.{selected, placesOf}
-use Rattle.ground.specs.Lists.{from, all, keepIf, countIf, findIf, firstOf}
+use Rattle.ground.specs.Lists.{from, allOf, keepIf, countIf, findIf, firstOf}
 use Rattle.rules.specs.declared.Point.{Point}
 use Rattle.rules.specs.declared.Product.{Product}
 use Rattle.rules.specs.declared.Window.{Window}
@@ -81,5 +81,5 @@ cases =
     ∷ []
 
 pub cases-hold : map (λ (c : Case). c .says) cases ≡ map (λ (c : Case). c .expected) cases
-unfolding tableRefusal treeTo inside choices _crossed-with_ firsts products from all keepIf countIf findIf firstOf selected placesOf flatMap
+unfolding tableRefusal treeTo inside choices _crossed-with_ firsts products from allOf keepIf countIf findIf firstOf selected placesOf flatMap
 cases-hold = refl

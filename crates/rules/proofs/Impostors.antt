@@ -8,7 +8,7 @@ use lib.Dec.{lit≤}
 use lib.IntN.{ℤ, pos, negsuc}
 use lib.ListN.{length, getD, replicate}
 use Rattle.ground.specs.Bits.{selected, placesOf}
-use Rattle.ground.specs.Lists.{from, all, any, keepIf, countIf, findIf, firstOf}
+use Rattle.ground.specs.Lists.{from, allOf, anyOf, keepIf, countIf, findIf, firstOf}
 use Rattle.rules.specs.declared.Checked.the-variants as checked
 use Rattle.rules.specs.declared.Kind.the-variants.{Box}
 use Rattle.rules.specs.declared.Located.the-variants as located
@@ -61,27 +61,27 @@ abbrev from19 : Place
 from19 = record { first = pos 19; frame = zero }
 
 right-check : TableChecked q checked.Sound
-unfolding tableRefusal from all countIf findIf firstOf flatMap
+unfolding tableRefusal from allOf countIf findIf firstOf flatMap
 right-check = record { answer = refl }
 
 right-tree-point : TreeLocated q (at 8 0) located.Inside
-unfolding tableRefusal treeTo inside from all countIf findIf firstOf flatMap
+unfolding tableRefusal treeTo inside from allOf countIf findIf firstOf flatMap
 right-tree-point = record { answer = refl }
 
 right-tree-search : TreeSearched q three from19 (searched.Hit 1 2)
-unfolding tableRefusal treeTo inside firstInside insideCount from all any countIf findIf firstOf flatMap
+unfolding tableRefusal treeTo inside firstInside insideCount from allOf anyOf countIf findIf firstOf flatMap
 right-tree-search = record { answer = refl }
 
 right-make : ListMade q window room qList (written.Wrote 12)
-unfolding tableRefusal treeTo choices _crossed-with_ firsts products zoneList from all keepIf countIf findIf firstOf selected placesOf flatMap
+unfolding tableRefusal treeTo choices _crossed-with_ firsts products zoneList from allOf keepIf countIf findIf firstOf selected placesOf flatMap
 right-make = record { answer = refl; buffer = refl }
 
 right-list-point : ListLocated q qList (at 8 0) located.Inside
-unfolding tableRefusal listRefusal insideProduct insideList from all any countIf findIf firstOf selected flatMap
+unfolding tableRefusal listRefusal insideProduct insideList from allOf anyOf countIf findIf firstOf selected flatMap
 right-list-point = record { answer = refl }
 
 right-list-search : ListSearched q qList three from19 (searched.Hit 1 2)
-unfolding tableRefusal listRefusal insideProduct insideList firstInside insideCount from all any countIf findIf firstOf selected flatMap
+unfolding tableRefusal listRefusal insideProduct insideList firstInside insideCount from allOf anyOf countIf findIf firstOf selected flatMap
 right-list-search = record { answer = refl }
 
 abbrev oneBox : List ℤ
@@ -95,11 +95,11 @@ abbrev boxText : List ℕ
 boxText = 122 ∷ 111 ∷ 110 ∷ 101 ∷ 9 ∷ 49 ∷ 10 ∷ 98 ∷ 111 ∷ 120 ∷ 9 ∷ 48 ∷ 9 ∷ 57 ∷ 9 ∷ 48 ∷ 9 ∷ 48 ∷ 9 ∷ 48 ∷ 9 ∷ 48 ∷ 10 ∷ []
 
 right-write : TextWritten oneBox (replicate 23 7) boxText (written.Wrote 23)
-unfolding tableRefusal tableText decimalIn from all countIf findIf firstOf flatMap
+unfolding tableRefusal tableText decimalIn from allOf countIf findIf firstOf flatMap
 right-write = record { answer = refl; buffer = refl }
 
 right-read : TextRead boxText (replicate 12 (pos 7)) oneBox (written.Wrote 12)
-unfolding tableRefusal decimalIn from all countIf findIf firstOf flatMap
+unfolding tableRefusal decimalIn from allOf countIf findIf firstOf flatMap
 right-read = record {
   form = spelt (boxRow ∷ []) (lit≤ tt) (lit≤ tt) (lit≤ tt) (record { named = refl; fit = omega arith }, tt) refl;
   answer = refl;
@@ -158,11 +158,11 @@ list-always-outside h = let e = list-located-settled (h q qList (at 8 0)) right-
 -- ---- one that tests only the first sample: with one column or with three it says the same
 
 right-tree-one : TreeSearched q (zero ∷ []) from19 searched.Clear
-unfolding tableRefusal treeTo inside firstInside insideCount from all any countIf findIf firstOf flatMap
+unfolding tableRefusal treeTo inside firstInside insideCount from allOf anyOf countIf findIf firstOf flatMap
 right-tree-one = record { answer = refl }
 
 right-list-one : ListSearched q qList (zero ∷ []) from19 searched.Clear
-unfolding tableRefusal listRefusal insideProduct insideList firstInside insideCount from all any countIf findIf firstOf selected flatMap
+unfolding tableRefusal listRefusal insideProduct insideList firstInside insideCount from allOf anyOf countIf findIf firstOf selected flatMap
 right-list-one = record { answer = refl }
 
 pub tree-first-sample-only : (says : List ℤ → ℤ → Place → Searched)
@@ -220,7 +220,7 @@ abbrev pub rawList : List ℤ → Window → List ℕ
 rawList t w = listOf w (length (primitives t)) (firstPruned w (primitives t) (keepIf (stays w (primitives t)) (choices inOf (treeOf t))))
 
 right-cutFar : ListMade cutFar window room (2 ∷ 32668 ∷ 32868 ∷ 0 ∷ 65535 ∷ 0 ∷ 65535 ∷ 3 ∷ 1 ∷ 0 ∷ 2 ∷ 0 ∷ []) (written.Wrote 12)
-unfolding tableRefusal treeTo choices _crossed-with_ firsts products zoneList from all keepIf countIf findIf firstOf selected placesOf flatMap
+unfolding tableRefusal treeTo choices _crossed-with_ firsts products zoneList from allOf keepIf countIf findIf firstOf selected placesOf flatMap
 right-cutFar = record { answer = refl; buffer = refl }
 
 pub others-raw : (says : List ℤ → Window → List ℕ → Written)

@@ -5,7 +5,7 @@ use lib.Dec.{ltb}
 use lib.IntN.{ℤ, pos, negsuc, _+ℤ_, _-ℤ_}
 use lib.Signed.{leZ}
 use Rattle.ground.specs.Tests.{eqZ}
-use Rattle.ground.specs.Lists.{rest, all}
+use Rattle.ground.specs.Lists.{rest, allOf}
 use Rattle.rules.specs.declared.BoxShape.{BoxShape}
 use Rattle.rules.specs.declared.WedgeShape.{WedgeShape}
 use Rattle.rules.specs.declared.DrumShape.{DrumShape}
@@ -54,17 +54,17 @@ fieldsRight Diff w = true
 
 -- the words that a kind does not name are 0
 abbrev pub spareRight : Kind → (ℕ → ℤ) → Bool
-spareRight k w = all (λ i. eqZ (w i) (pos 0)) (rest (1 + namedWords k) rowWords)
+spareRight k w = allOf (λ i. eqZ (w i) (pos 0)) (rest (1 + namedWords k) rowWords)
 
 -- a child is an earlier row
-abbrev pub earlier : ℕ → ℤ → Bool
-earlier row (pos child) = ltb child row
-earlier row (negsuc child) = false
+abbrev pub isEarlier : ℕ → ℤ → Bool
+isEarlier row (pos child) = ltb child row
+isEarlier row (negsuc child) = false
 
 abbrev pub childrenRight : Kind → (ℕ → ℤ) → ℕ → Bool
 childrenRight Box w row = true
 childrenRight Wedge w row = true
 childrenRight Drum w row = true
-childrenRight Union w row = earlier row (w 1) && earlier row (w 2)
-childrenRight Inter w row = earlier row (w 1) && earlier row (w 2)
-childrenRight Diff w row = earlier row (w 1) && earlier row (w 2)
+childrenRight Union w row = isEarlier row (w 1) && isEarlier row (w 2)
+childrenRight Inter w row = isEarlier row (w 1) && isEarlier row (w 2)
+childrenRight Diff w row = isEarlier row (w 1) && isEarlier row (w 2)

@@ -6,7 +6,7 @@ use mathlib.Core.Option.{Option}
 use lib.Dec.{eqb, ltb}
 use lib.IntN.{ℤ, pos, _+ℤ_}
 use lib.ListN.{length, getD}
-use Rattle.ground.specs.Lists.{below, all, any, countIf, findIf, firstOf, rulings}
+use Rattle.ground.specs.Lists.{below, allOf, anyOf, countIf, findIf, firstOf, rulings}
 use Rattle.rules.specs.declared.Place.{Place}
 use Rattle.rules.specs.declared.Point.{Point}
 use Rattle.rules.specs.declared.Refusal.{Refusal}
@@ -36,7 +36,7 @@ abbrev pub frameRefusal : List ℤ → Place → Option Refusal
 frameRefusal samples place =
     firstOf
     (refuseIf (eqb (length samples) 0 || ltb mostSamples (length samples)) 12 0
-    ∷ refuseUnless (all (λ k. within columns (column place k)) (below (length samples))) 12 1
+    ∷ refuseUnless (allOf (λ k. within columns (column place k)) (below (length samples))) 12 1
     ∷ refuseUnless (within frames (place .frame)) 12 2
     ∷ [])
 
@@ -48,7 +48,7 @@ leavesRefusal window samples place =
 -- over any way to be inside, that of a tree or that of a list
 module _ (isInside : Point → Bool) (samples : List ℤ) (place : Place) where
   abbrev pub sampleInside : ℕ → Bool
-  sampleInside k = any (λ code. isInside (pointOf place k code)) (heldCodes samples k)
+  sampleInside k = anyOf (λ code. isInside (pointOf place k code)) (heldCodes samples k)
 
   unfoldable pub firstInside : Option ℕ
   firstInside = findIf sampleInside (below (length samples))

@@ -21,8 +21,8 @@ bounds b = record {
 }
 
 -- ax + by + cz <= d
-abbrev pub below : ℤ → ℤ → ℤ → ℤ → ℤ → ℤ → ℤ → Bool
-below a b c d x y z = leZ (a *ℤ x +ℤ b *ℤ y +ℤ c *ℤ z) d
+abbrev pub halfSpace : ℤ → ℤ → ℤ → ℤ → ℤ → ℤ → ℤ → Bool
+halfSpace a b c d x y z = leZ (a *ℤ x +ℤ b *ℤ y +ℤ c *ℤ z) d
 
 abbrev pub square : ℤ → ℤ
 square v = v *ℤ v
@@ -32,7 +32,7 @@ abbrev pub inEllipse : ℤ → ℤ → ℤ → ℤ → ℤ → ℤ → Bool
 inEllipse cx cy rx ry x y = leZ (square ry *ℤ square (x -ℤ cx) +ℤ square rx *ℤ square (y -ℤ cy)) (square rx *ℤ square ry)
 
 abbrev pub insideWedge : WedgeShape → Point → Bool
-insideWedge w p = holds (bounds (w .bounds)) p && below (w .a) (w .b) (w .c) (w .d) (p .x) (p .y) (p .z)
+insideWedge w p = holds (bounds (w .bounds)) p && halfSpace (w .a) (w .b) (w .c) (w .d) (p .x) (p .y) (p .z)
 
 abbrev pub insideDrum : DrumShape → Point → Bool
 insideDrum d p =

@@ -9,7 +9,7 @@ ghost use mathlib.Core.Path.{_≡_};
 ghost use Rattle.rules.specs.Ranges.{within, columns, codes, frames};
 ghost use Rattle.rules.specs.Boxes.{holds, everywhere};
 ghost use Rattle.rules.specs.Fields.{slopes, radii, wedgeRight, drumRight};
-ghost use Rattle.rules.specs.Inside.{bounds, below, inEllipse, insideWedge, insideDrum, insideSolid};
+ghost use Rattle.rules.specs.Inside.{bounds, halfSpace, inEllipse, insideWedge, insideDrum, insideSolid};
 ghost use Rattle.laws.specs.Sound.{solidRight};
 
 fn in_box(b: BoxShape, p: Point) -> bool
@@ -23,7 +23,7 @@ fn in_box(b: BoxShape, p: Point) -> bool
 fn half_space(a: i32, b: i32, c: i32, d: i32, x: i32, y: i32, z: i32) -> bool
     requires { ⌜ (within slopes a ≡ true) × ((within slopes b ≡ true) × (within slopes c ≡ true)) ⌝ }
     requires { ⌜ (within columns x ≡ true) × ((within codes y ≡ true) × (within frames z ≡ true)) ⌝ }
-    ensures { λ r. ⌜ r ≡ below a b c d x y z ⌝ }
+    ensures { λ r. ⌜ r ≡ halfSpace a b c d x y z ⌝ }
 {
     (a as i64) * (x as i64) + (b as i64) * (y as i64) + (c as i64) * (z as i64) <= (d as i64)
 }

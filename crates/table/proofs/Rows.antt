@@ -17,9 +17,9 @@ use Rattle.rules.specs.declared.Row.{Row}
 use Rattle.rules.specs.declared.Row.the-variants.{Union, Inter, Diff}
 use Rattle.rules.specs.Kinds.{kindNumber, kindOf}
 use Rattle.rules.specs.Table.{rowCount, wordAt, operation, rowOf, rowBy, kindAt, rowAt}
-use Rattle.rules.specs.Fields.{earlier, childrenRight}
+use Rattle.rules.specs.Fields.{isEarlier, childrenRight}
 use Rattle.laws.specs.Sound.{SoundRow, Sound}
-use Rattle.laws.proofs.Numbering.{number-kind, kind-number, no-kind}
+use Rattle.laws.proofs.KindNumbers.{number-kind, kind-number, no-kind}
 use Rattle.table.specs.declared.Named.the-variants as named
 use Rattle.table.specs.Reading.{isPrimitive, InTable, IsOperation, namedBy}
 
@@ -94,7 +94,7 @@ child-fits (negsuc n) f h = absurd h
 
 -- ---- fields and children by the kind
 
-pub children-by : (k : Kind) (w : ℕ → ℤ) (row : ℕ) → childrenRight k w row ≡ (isPrimitive k || (earlier row (w 1) && earlier row (w 2)))
+pub children-by : (k : Kind) (w : ℕ → ℤ) (row : ℕ) → childrenRight k w row ≡ (isPrimitive k || (isEarlier row (w 1) && isEarlier row (w 2)))
 children-by kind.Box w row = refl
 children-by kind.Wedge w row = refl
 children-by kind.Drum w row = refl
@@ -102,7 +102,7 @@ children-by kind.Union w row = refl
 children-by kind.Inter w row = refl
 children-by kind.Diff w row = refl
 
-pub earlier-read : (row : ℕ) (z : ℤ) → (leZ (pos 0) z && ltZ z (pos row)) ≡ earlier row z
+pub earlier-read : (row : ℕ) (z : ℤ) → (leZ (pos 0) z && ltZ z (pos row)) ≡ isEarlier row z
 earlier-read row (pos n) = ap (λ (b : Bool). b && ltb n row) (leb·zero n)
 earlier-read row (negsuc n) = refl
 

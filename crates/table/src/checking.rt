@@ -14,7 +14,7 @@ ghost use Rattle.rules.specs.Table.{wordAt, rowAt};
 ghost use Rattle.rules.specs.Refusals.{refuse};
 ghost use Rattle.rules.specs.Verdict.{rowRefusal, rowRefusalBy, childrenOf, childRefusal, tableRefusal};
 ghost use Rattle.rules.specs.TreeCalls.{TableChecked};
-ghost use Rattle.laws.specs.Answers.{checkedBy};
+ghost use Rattle.laws.specs.Checking.{checkedBy};
 ghost use Rattle.laws.specs.Sound.{SoundRow};
 ghost use Rattle.table.specs.Reading.{InTable, listed, SoundRows, timesTo, onceRule};
 

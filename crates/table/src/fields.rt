@@ -7,10 +7,10 @@ ghost use Prim.Native.Nat.{_+_, _≤_, _<_};
 ghost use mathlib.Core.Path.{_≡_};
 ghost use lib.IntN.{pos};
 ghost use Rattle.ground.specs.Tests.{eqZ};
-ghost use Rattle.ground.specs.Lists.{rest, all};
+ghost use Rattle.ground.specs.Lists.{rest, allOf};
 ghost use Rattle.rules.specs.Kinds.{namedWords};
 ghost use Rattle.rules.specs.Table.{wordAt};
-ghost use Rattle.rules.specs.Fields.{endsRight, boxRight, slopesRight, wedgeRight, reachRight, drumRight, fieldsRight, earlier, childrenRight};
+ghost use Rattle.rules.specs.Fields.{endsRight, boxRight, slopesRight, wedgeRight, reachRight, drumRight, fieldsRight, isEarlier, childrenRight};
 ghost use Rattle.table.specs.Reading.{InTable, isPrimitive};
 
 // Both ends are in a range, and lo <= hi.
@@ -97,7 +97,7 @@ pub fn named_words(kind: Kind) -> usize
 // The words of a row from `start` on are 0.
 pub fn spare_right(table: &[i32], row: usize, start: usize) -> bool
     requires { ⌜ InTable (now table) row ⌝ }
-    ensures { λ r. ⌜ r ≡ all (λ i. eqZ (wordAt (now (table .entry)) row i) (pos 0)) (rest start 12) ⌝ }
+    ensures { λ r. ⌜ r ≡ allOf (λ i. eqZ (wordAt (now (table .entry)) row i) (pos 0)) (rest start 12) ⌝ }
 {
     let mut k = start;
     while k < rules::ROW_WORDS {
@@ -125,7 +125,7 @@ fn is_primitive(kind: Kind) -> bool
 // A word names an earlier row.
 fn is_earlier(row: usize, child: i32) -> bool
     requires { ⌜ row ≤ 127 ⌝ }
-    ensures { λ r. ⌜ r ≡ earlier row child ⌝ }
+    ensures { λ r. ⌜ r ≡ isEarlier row child ⌝ }
 {
     (0 <= child) & (child < (row as i32))
 }

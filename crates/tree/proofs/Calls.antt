@@ -19,7 +19,7 @@ use Rattle.rules.specs.Inside.{inside}
 use Rattle.rules.specs.Frame.{frameRefusal, sampleInside, firstInside, insideCount}
 use Rattle.rules.specs.Told.{Tale, fine, toldLocated, toldSearched}
 use Rattle.rules.specs.TreeCalls.{pointRefusal, pointTale, searchTale, TreeLocated, TreeSearched}
-use Rattle.laws.proofs.Answers.{told-now, told-later, told-fine}
+use Rattle.laws.proofs.Telling.{told-now, told-later, told-fine}
 use Rattle.frame.specs.declared.Tally.{Tally}
 use Rattle.frame.specs.Tallies.{seen, Tallied}
 

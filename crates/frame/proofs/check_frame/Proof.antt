@@ -7,7 +7,7 @@ use mir.Syntax.{w32}
 use mir.Val.{SFits}
 use mir.ValLaws.{toZ-ofZ}
 use Rattle.rules.specs.Ranges.{within, frames}
-use Rattle.laws.specs.Answers.{checkedBy}
+use Rattle.laws.specs.Checking.{checkedBy}
 use Rattle.frame.proofs.Frames.{length-wrong, some-sample, not-over, columns-wrong, frame-wrong, frame-fine}
 use Rattle.frame.specs.Tallies.{columnsRight}
 use Rattle.frame.proofs.check_frame.Statement.{statement}

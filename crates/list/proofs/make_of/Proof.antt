@@ -16,9 +16,9 @@ use Rattle.laws.proofs.Apart.{few-primitives}
 use Rattle.laws.proofs.Soundness.{table-sound}
 use Rattle.laws.specs.Sound.{Sound}
 use Rattle.choice.specs.Steps.{Remembered}
-use Rattle.list.proofs.Calls.{made-room, made-fine, expansion-ways, zone-words, listed-products, list-written}
-use Rattle.list.proofs.Growth.{listed-length}
-use Rattle.list.specs.Growth.{rootPlan, listed, Ready}
+use Rattle.list.proofs.Calls.{made-room, made-fine, expansion-ways, zone-words, survivors-to-products, list-written}
+use Rattle.list.proofs.Growth.{survivors-to-length}
+use Rattle.list.specs.Growth.{rootPlan, survivorsTo, Ready}
 use Rattle.list.proofs.make_of.Statement.{statement}
 use Rattle.list.proofs.make_of.Tie as tie
 
@@ -47,12 +47,12 @@ module _ (m : tie.After-seen-in) where
   start = m .before .before .before .before
 
   abbrev all : List Product
-  all = listed (m .before .meet-all .last .0) (m .before .meet-all .result) (m .seen-in .result) (rootPlan (start .args .table .now)) (start .args .ways)
+  all = survivorsTo (m .before .meet-all .last .0) (m .before .meet-all .result) (m .seen-in .result) (rootPlan (start .args .table .now)) (start .args .ways)
 
   all-products : all ≡ products (start .args .w) (primitives (start .args .table .now)) (treeOf (start .args .table .now))
   all-products =
       let made = m .before .meet-all in
-      listed-products (start .args .table .now) (start .args .w) (sound start) (start .pre .0 .1) (made .last .0) (made .ensures .0) (made .ensures .1) (m .seen-in .ensures) (start .pre .1 .1 .1 .0)
+      survivors-to-products (start .args .table .now) (start .args .w) (sound start) (start .pre .0 .1) (made .last .0) (made .ensures .0) (made .ensures .1) (m .seen-in .ensures) (start .pre .1 .1 .1 .0)
 
   all-words : 8 + 2 * length all ≡ length (zoneList (start .args .table .now) (start .args .w))
   all-words = ap (λ (ps : List Product). 8 + 2 * length ps) all-products ∙ sym (zone-words (start .args .table .now) (start .args .w))
@@ -60,7 +60,7 @@ module _ (m : tie.After-seen-in) where
   all-few : length all ≤ 65536
   all-few =
       let made = m .before .meet-all in
-      omega (arith, start .pre .1 .1 .1 .1, listed-length (made .last .0) (made .result) (m .seen-in .result) (rootPlan (start .args .table .now)) (start .args .ways) (omega (arith, start .pre .1 .1 .1 .0)))
+      omega (arith, start .pre .1 .1 .1 .1, survivors-to-length (made .last .0) (made .result) (m .seen-in .result) (rootPlan (start .args .table .now)) (start .args .ways) (omega (arith, start .pre .1 .1 .1 .0)))
 
 meet-all-requires : tie.Need-meet-all-requires
 meet-all-requires c κs = sound (c .before .before)

@@ -8,7 +8,7 @@ use Rattle.ground.proofs.Branches.{and-yes, and-no}
 use Rattle.ground.proofs.Signed.{reread}
 use Rattle.rules.specs.Boxes.{holds}
 use Rattle.rules.specs.Fields.{slopes}
-use Rattle.rules.specs.Inside.{bounds, below}
+use Rattle.rules.specs.Inside.{bounds, halfSpace}
 use Rattle.rules.specs.Ranges.{within, columns, codes, frames}
 use Rattle.laws.proofs.Ranges.{x-in, y-in, z-in, a-in, b-in, c-in}
 use Rattle.solid.proofs.in_wedge.Statement.{statement}
@@ -52,7 +52,7 @@ returns-2 c =
     let p = s .args .p in
     let f = fits s in
     c .half-space .ensures
-    ∙ (λ i. below (toZ-ofZ w32 (w .a) (f .a) i) (toZ-ofZ w32 (w .b) (f .b) i) (toZ-ofZ w32 (w .c) (f .c) i) (toZ-ofZ w32 (w .d) (f .d) i)
+    ∙ (λ i. halfSpace (toZ-ofZ w32 (w .a) (f .a) i) (toZ-ofZ w32 (w .b) (f .b) i) (toZ-ofZ w32 (w .c) (f .c) i) (toZ-ofZ w32 (w .d) (f .d) i)
     (toZ-ofZ w32 (p .x) (f .x) i) (toZ-ofZ w32 (p .y) (f .y) i) (toZ-ofZ w32 (p .z) (f .z) i))
     ∙ and-yes (holds (bounds (w .bounds)) p) _ (sym (e .before .in-box .ensures) ∙ not-false _ (e .if1 .left))
 

@@ -3,9 +3,9 @@ use mathlib.Core.Path.{_≡_, sym, ap, _∙_}
 use borrow.Author.Needs.{needs}
 use Rattle.rules.specs.Boxes.{Box, everywhere}
 use Rattle.rules.specs.TreeCalls.{pointRefusal}
-use Rattle.laws.proofs.Answers.{went-on, stopped, point-holds}
+use Rattle.laws.proofs.Telling.{went-on, stopped, point-holds}
 use Rattle.laws.proofs.Soundness.{table-sound}
-use Rattle.laws.specs.Answers.{checkedBy}
+use Rattle.laws.specs.Checking.{checkedBy}
 use Rattle.tree.proofs.Calls.{point-out, point-inside, point-outside}
 use Rattle.tree.proofs.sound_point.Statement.{statement}
 use Rattle.tree.proofs.sound_point.Tie as tie

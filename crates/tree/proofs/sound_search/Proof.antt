@@ -2,7 +2,7 @@ use mathlib.Core.Option.{none}
 use mathlib.Core.Path.{_≡_, sym, _∙_}
 use borrow.Author.Needs.{needs}
 use Rattle.rules.specs.Frame.{frameRefusal}
-use Rattle.laws.proofs.Answers.{went-on, stopped}
+use Rattle.laws.proofs.Telling.{went-on, stopped}
 use Rattle.laws.proofs.Soundness.{table-sound}
 use Rattle.tree.proofs.Calls.{search-frame, search-fine}
 use Rattle.tree.proofs.sound_search.Statement.{statement}

@@ -1,7 +1,7 @@
 use mathlib.Core.Path.{sym, _∙_}
 use borrow.Author.Needs.{needs}
 use Rattle.rules.specs.Verdict.{tableRefusal}
-use Rattle.laws.proofs.Answers.{went-on, stopped}
+use Rattle.laws.proofs.Telling.{went-on, stopped}
 use Rattle.tree.proofs.Calls.{point-table}
 use Rattle.tree.proofs.tree_point.Statement.{statement}
 use Rattle.tree.proofs.tree_point.Tie as tie

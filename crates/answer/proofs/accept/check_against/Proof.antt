@@ -3,7 +3,7 @@ use mathlib.Core.Path.{sym, _∙_}
 use borrow.Author.Needs.{needs}
 use Rattle.rules.specs.ListFaults.{listRefusal, primitivesRefusal}
 use Rattle.rules.specs.Table.{primitives}
-use Rattle.laws.proofs.Answers.{went-on, stopped}
+use Rattle.laws.proofs.Telling.{went-on, stopped}
 use Rattle.laws.proofs.SoundLists.{list-sound}
 use Rattle.answer.proofs.Calls.{checked-now, checked-later}
 use Rattle.answer.proofs.Checks.{alone}

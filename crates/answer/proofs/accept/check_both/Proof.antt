@@ -4,7 +4,7 @@ use borrow.Author.Needs.{needs}
 use Rattle.rules.specs.ListFaults.{listRefusal, primitivesRefusal}
 use Rattle.rules.specs.Table.{primitives}
 use Rattle.rules.specs.Verdict.{tableRefusal}
-use Rattle.laws.proofs.Answers.{went-on, stopped}
+use Rattle.laws.proofs.Telling.{went-on, stopped}
 use Rattle.laws.proofs.Soundness.{table-sound}
 use Rattle.answer.proofs.Calls.{checked-now, checked-later}
 use Rattle.answer.proofs.accept.check_both.Statement.{statement}

@@ -4,7 +4,7 @@ use borrow.Author.Needs.{needs}
 use lib.Dec.{eqb}
 use Rattle.rules.specs.ListWords.{primitiveCount}
 use Rattle.rules.specs.Refusals.{refuseUnless}
-use Rattle.laws.specs.Answers.{checkedBy}
+use Rattle.laws.specs.Checking.{checkedBy}
 use Rattle.answer.proofs.Checks.{if-not}
 use Rattle.answer.proofs.accept.check_counts.Statement.{statement}
 use Rattle.answer.proofs.accept.check_counts.Tie as tie

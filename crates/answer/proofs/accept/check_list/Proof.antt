@@ -5,7 +5,7 @@ use borrow.Author.Tests.{le-ltb, lt-ltb}
 use lib.ListN.{length}
 use Rattle.ground.specs.Lists.{firstOf}
 use Rattle.rules.specs.ListFaults.{headerRefusals}
-use Rattle.laws.proofs.Answers.{went-on, stopped}
+use Rattle.laws.proofs.Telling.{went-on, stopped}
 use Rattle.laws.proofs.SoundLists.{header-sound}
 use Rattle.laws.specs.SoundList.{SoundHeader}
 use Rattle.answer.proofs.Calls.{too-short, header-refused, header-passed}

@@ -8,8 +8,8 @@ use Rattle.ground.proofs.Counting.{kept, broken, all-kept}
 use Rattle.ground.specs.Lists.{firstOf, rulings}
 use Rattle.rules.specs.ListFaults.{productRefusals}
 use Rattle.rules.specs.declared.Refusal.{Refusal}
-use Rattle.laws.proofs.Answers.{went-on, stopped}
-use Rattle.laws.specs.Answers.{checkedBy}
+use Rattle.laws.proofs.Telling.{went-on, stopped}
+use Rattle.laws.specs.Checking.{checkedBy}
 use Rattle.answer.proofs.accept.check_products.Statement.{statement}
 use Rattle.answer.proofs.accept.check_products.Tie as tie
 

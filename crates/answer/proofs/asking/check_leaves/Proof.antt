@@ -15,7 +15,7 @@ use Rattle.rules.specs.Refusals.{refuseUnless}
 use Rattle.rules.specs.declared.Place.{Place}
 use Rattle.rules.specs.declared.Refusal.{Refusal}
 use Rattle.rules.specs.declared.Window.{Window}
-use Rattle.laws.specs.Answers.{checkedBy}
+use Rattle.laws.specs.Checking.{checkedBy}
 use Rattle.answer.proofs.asking.check_leaves.Statement.{statement}
 use Rattle.answer.proofs.asking.check_leaves.Tie as tie
 

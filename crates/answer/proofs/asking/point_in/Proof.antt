@@ -4,10 +4,10 @@ use borrow.Author.Needs.{needs}
 use Rattle.rules.specs.Boxes.{Box}
 use Rattle.rules.specs.ListWords.{listWindow}
 use Rattle.rules.specs.TreeCalls.{pointRefusal}
-use Rattle.laws.proofs.Answers.{went-on, stopped, point-holds}
-use Rattle.laws.proofs.Held.{listed-in-range}
+use Rattle.laws.proofs.Telling.{went-on, stopped, point-holds}
+use Rattle.laws.proofs.Held.{list-window-in-range}
 use Rattle.laws.proofs.SoundLists.{list-sound}
-use Rattle.laws.specs.Answers.{checkedBy}
+use Rattle.laws.specs.Checking.{checkedBy}
 use Rattle.answer.proofs.Calls.{point-out, point-inside, point-outside}
 use Rattle.answer.proofs.asking.point_in.Statement.{statement}
 use Rattle.answer.proofs.asking.point_in.Tie as tie
@@ -39,7 +39,7 @@ list-inside-requires : tie.Need-list-inside-requires
 list-inside-requires c κs =
     let s = c .before .before .before .before .before in
     let list = s .args .list .now in
-    (s .pre, listed-in-range list (list-sound list (s .pre .listed) .header) (s .args .p) (point-holds (listWindow list) (s .args .p) (in-window c)))
+    (s .pre, list-window-in-range list (list-sound list (s .pre .listed) .header) (s .args .p) (point-holds (listWindow list) (s .args .p) (in-window c)))
 
 returns : tie.Need-returns
 returns c =

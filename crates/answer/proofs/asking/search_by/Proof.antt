@@ -1,7 +1,7 @@
 use mathlib.Core.Path.{sym, _∙_}
 use borrow.Author.Needs.{needs}
 use Rattle.rules.specs.Frame.{frameRefusal}
-use Rattle.laws.proofs.Answers.{went-on, stopped}
+use Rattle.laws.proofs.Telling.{went-on, stopped}
 use Rattle.answer.proofs.Calls.{search-frame}
 use Rattle.answer.proofs.asking.search_by.Statement.{statement}
 use Rattle.answer.proofs.asking.search_by.Tie as tie

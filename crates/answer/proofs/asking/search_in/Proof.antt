@@ -3,9 +3,9 @@ use borrow.Author.Needs.{needs}
 use Rattle.rules.specs.Boxes.{Box}
 use Rattle.rules.specs.Frame.{leavesRefusal}
 use Rattle.rules.specs.ListWords.{listWindow}
-use Rattle.laws.proofs.Answers.{went-on, stopped}
+use Rattle.laws.proofs.Telling.{went-on, stopped}
 use Rattle.laws.proofs.SoundLists.{list-sound}
-use Rattle.laws.specs.Answers.{checkedBy}
+use Rattle.laws.specs.Checking.{checkedBy}
 use Rattle.answer.proofs.Calls.{search-leaves, search-fine}
 use Rattle.answer.proofs.asking.search_in.Statement.{statement}
 use Rattle.answer.proofs.asking.search_in.Tie as tie

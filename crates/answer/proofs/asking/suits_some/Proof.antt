@@ -5,7 +5,7 @@ use mathlib.Core.List.{List}
 use mathlib.Core.Path.{_≡_, refl, sym, ap, _∙_}
 use borrow.Author.Needs.{needs}
 use Rattle.ground.proofs.Counting.{any-yes, any-no, any-done, rest-all}
-use Rattle.ground.specs.Lists.{rest, any}
+use Rattle.ground.specs.Lists.{rest, anyOf}
 use Rattle.rules.specs.ListWords.{productCount, productAt}
 use Rattle.laws.specs.Held.{suits}
 use Rattle.answer.proofs.asking.suits_some.Statement.{statement}
@@ -15,7 +15,7 @@ abbrev test : List ℕ → ℕ → ℕ → Bool
 test list set k = suits set (productAt list k)
 
 abbrev Inv-loop : tie.InvT-loop
-Inv-loop list set count k₀ k = (k ≤ productCount list) × (any (test list set) (rest 0 (productCount list)) ≡ any (test list set) (rest k (productCount list)))
+Inv-loop list set count k₀ k = (k ≤ productCount list) × (anyOf (test list set) (rest 0 (productCount list)) ≡ anyOf (test list set) (rest k (productCount list)))
 
 abbrev μ-loop : tie.MeasureT-loop
 μ-loop list set count k₀ k = productCount list - k
@@ -38,7 +38,7 @@ returns c =
     let l = p .before .before in
     let s = l .before .before .before in
     let yes-there = sym (c .before .suits .ensures ∙ ap (suits (s .args .set)) (p .product-at .ensures)) ∙ c .if1 .taken in
-    sym (ap (any (test (s .args .list .now) (s .args .set))) (sym (rest-all (productCount (s .args .list .now))))
+    sym (ap (anyOf (test (s .args .list .now) (s .args .set))) (sym (rest-all (productCount (s .args .list .now))))
     ∙ l .loop .inv .1 ∙ any-yes (test (s .args .list .now) (s .args .set)) (l .loop .k) (productCount (s .args .list .now)) (p .before .loop-test .taken) yes-there)
 
 add-k : tie.Need-add-k Inv-loop μ-loop
@@ -60,7 +60,7 @@ returns-2 c =
     let l = c .before in
     let s = l .before .before .before in
     let n = productCount (s .args .list .now) in
-    sym (ap (any (test (s .args .list .now) (s .args .set))) (sym (rest-all n)) ∙ l .loop .inv .1 ∙ any-done (test (s .args .list .now) (s .args .set)) (l .loop .k) n (c .loop-test .left))
+    sym (ap (anyOf (test (s .args .list .now) (s .args .set))) (sym (rest-all n)) ∙ l .loop .inv .1 ∙ any-done (test (s .args .list .now) (s .args .set)) (l .loop .k) n (c .loop-test .left))
 
 pub suits-some-spec : {M : Type 1} → statement M
 suits-some-spec =

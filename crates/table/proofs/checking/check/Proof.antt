@@ -3,9 +3,9 @@ use mathlib.Core.Path.{_≡_, sym, ap, _∙_}
 use borrow.Author.Needs.{needs}
 use Rattle.rules.specs.Verdict.{lengthRefusal, rowsRefusal}
 use Rattle.laws.proofs.Soundness.{whole-table}
-use Rattle.laws.proofs.Answers.{went-on, stopped}
+use Rattle.laws.proofs.Telling.{went-on, stopped}
 use Rattle.table.proofs.Checks.{length-wrong, length-right, rows-wrong, rows-right, sound-rows}
-use Rattle.laws.specs.Answers.{checkedBy}
+use Rattle.laws.specs.Checking.{checkedBy}
 use Rattle.table.proofs.checking.check.Statement.{statement}
 use Rattle.table.proofs.checking.check.Tie as tie
 

@@ -5,7 +5,7 @@ use borrow.Author.Needs.{needs}
 use Rattle.ground.specs.Lists.{rulings}
 use Rattle.rules.specs.Table.{rowCount}
 use Rattle.table.proofs.Checks.{once-rules}
-use Rattle.laws.specs.Answers.{checkedBy}
+use Rattle.laws.specs.Checking.{checkedBy}
 use Rattle.table.specs.Reading.{timesTo, onceRule}
 use Rattle.table.proofs.checking.check_children.Statement.{statement}
 use Rattle.table.proofs.checking.check_children.Tie as tie

@@ -5,13 +5,13 @@ use borrow.Author.Tests.{not-true, not-false}
 use mathlib.Core.Path.{_≡_, sym, ap, _∙_}
 use borrow.Author.Needs.{needs}
 use lib.IntN.{ℤ, pos}
-use Rattle.ground.specs.Lists.{rest, all}
+use Rattle.ground.specs.Lists.{rest, allOf}
 use Rattle.ground.specs.Tests.{eqZ}
 use Rattle.rules.specs.Fields.{fieldsRight, spareRight}
 use Rattle.rules.specs.Table.{wordAt}
 use Rattle.laws.proofs.TextLengths.{few-named}
 use Rattle.table.proofs.Checks.{fields-wrong, children-wrong, row-right}
-use Rattle.laws.specs.Answers.{checkedBy}
+use Rattle.laws.specs.Checking.{checkedBy}
 use Rattle.table.proofs.checking.check_known.Statement.{statement}
 use Rattle.table.proofs.checking.check_known.Tie as tie
 
@@ -25,7 +25,7 @@ module _ (c : tie.After-spare-right) where
 
   first : (c .before .fields-right .result && c .spare-right .result) ≡ (fieldsRight (start .args .kind) words && spareRight (start .args .kind) words)
   first =
-      let spare = c .spare-right .ensures ∙ ap (λ (n : ℕ). all (λ i. eqZ (words i) (pos 0)) (rest (1 + n) 12)) (c .before .before .named-words .ensures) in
+      let spare = c .spare-right .ensures ∙ ap (λ (n : ℕ). allOf (λ i. eqZ (words i) (pos 0)) (rest (1 + n) 12)) (c .before .before .named-words .ensures) in
       λ i. c .before .fields-right .ensures i && spare i
 
 named-words-requires : tie.Need-named-words-requires

@@ -3,7 +3,7 @@ use native.Mathlib.Omega.{arith}
 use mathlib.Core.Path.{_≡_, refl, sym, ap, _∙_}
 use Rattle.ground.proofs.Counting.{kept, broken, all-kept}
 use Rattle.ground.specs.Lists.{rulings}
-use Rattle.laws.specs.Answers.{checkedBy}
+use Rattle.laws.specs.Checking.{checkedBy}
 use Rattle.table.specs.Reading.{onceRule}
 use Rattle.table.proofs.Checks.{once-no, once-yes}
 use Rattle.table.proofs.checking.check_once.Statement.{statement}

@@ -7,7 +7,7 @@ use Rattle.ground.proofs.Signed.{read}
 use Rattle.rules.specs.Kinds.{kindOf}
 use Rattle.rules.specs.Table.{wordAt}
 use Rattle.table.proofs.Checks.{unknown, known}
-use Rattle.laws.specs.Answers.{checkedBy}
+use Rattle.laws.specs.Checking.{checkedBy}
 use Rattle.table.specs.Reading.{namedBy}
 use Rattle.table.proofs.checking.check_row.Statement.{statement}
 use Rattle.table.proofs.checking.check_row.Tie as tie

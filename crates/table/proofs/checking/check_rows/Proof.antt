@@ -5,8 +5,8 @@ use borrow.Author.Needs.{needs}
 use Rattle.ground.proofs.Counting.{kept, broken, all-kept}
 use Rattle.ground.specs.Lists.{rulings}
 use Rattle.rules.specs.Verdict.{rowRefusal}
-use Rattle.laws.proofs.Answers.{went-on, stopped}
-use Rattle.laws.specs.Answers.{checkedBy}
+use Rattle.laws.proofs.Telling.{went-on, stopped}
+use Rattle.laws.specs.Checking.{checkedBy}
 use Rattle.table.proofs.checking.check_rows.Statement.{statement}
 use Rattle.table.proofs.checking.check_rows.Tie as tie
 

@@ -2,7 +2,7 @@ use mathlib.Core.Path.{ap, _∙_}
 use borrow.Author.Needs.{needs}
 use Rattle.rules.specs.Told.{toldChecked}
 use Rattle.rules.specs.Verdict.{tableRefusal}
-use Rattle.laws.proofs.Answers.{checked-told}
+use Rattle.laws.proofs.Telling.{checked-told}
 use Rattle.table.proofs.checking.check_table.Statement.{statement}
 use Rattle.table.proofs.checking.check_table.Tie as tie
 

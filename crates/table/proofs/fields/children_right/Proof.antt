@@ -3,7 +3,7 @@ use mathlib.Core.Path.{ap, _∙_}
 use borrow.Author.Needs.{needs}
 use mir.Syntax.{w32}
 use Rattle.ground.proofs.Signed.{read}
-use Rattle.rules.specs.Fields.{earlier}
+use Rattle.rules.specs.Fields.{isEarlier}
 use Rattle.table.proofs.Rows.{children-by}
 use Rattle.table.proofs.fields.children_right.Statement.{statement}
 use Rattle.table.proofs.fields.children_right.Tie as tie
@@ -29,8 +29,8 @@ is-earlier-requires-2 c κs = search needs
 returns-2 : tie.Need-returns-2
 returns-2 c =
     let s = c .before .before .before .before .before .before in
-    let left = c .before .before .is-earlier .ensures ∙ ap (earlier (s .args .row)) (read w32 (c .before .before .before .word .ok) (c .before .before .before .word .ensures)) in
-    let right = c .is-earlier2 .ensures ∙ ap (earlier (s .args .row)) (read w32 (c .before .word2 .ok) (c .before .word2 .ensures)) in
+    let left = c .before .before .is-earlier .ensures ∙ ap (isEarlier (s .args .row)) (read w32 (c .before .before .before .word .ok) (c .before .before .before .word .ensures)) in
+    let right = c .is-earlier2 .ensures ∙ ap (isEarlier (s .args .row)) (read w32 (c .before .word2 .ok) (c .before .word2 .ensures)) in
     rw (children-by, ← c .before .before .before .before .before .is-primitive .ensures, c .before .before .before .before .if1 .left) (λ i. left i && right i)
 
 pub children-right-spec : {M : Type 1} → statement M

@@ -7,7 +7,7 @@ use mathlib.Core.List.{List}
 use mathlib.Core.Path.{_≡_, refl, sym, _∙_}
 use lib.IntN.{ℤ, pos}
 use Rattle.ground.proofs.Counting.{all-yes, all-no, all-done}
-use Rattle.ground.specs.Lists.{rest, all}
+use Rattle.ground.specs.Lists.{rest, allOf}
 use Rattle.ground.specs.Tests.{eqZ}
 use Rattle.rules.specs.Table.{wordAt}
 use Rattle.table.proofs.fields.spare_right.Statement.{statement}
@@ -17,7 +17,7 @@ abbrev isZero : List ℤ → ℕ → ℕ → Bool
 isZero t row i = eqZ (wordAt t row i) (pos 0)
 
 abbrev Inv-loop : tie.InvT-loop
-Inv-loop table row start k₀ k = all (isZero table row) (rest start 12) ≡ all (isZero table row) (rest k 12)
+Inv-loop table row start k₀ k = allOf (isZero table row) (rest start 12) ≡ allOf (isZero table row) (rest k 12)
 
 abbrev μ-loop : tie.MeasureT-loop
 μ-loop table row start k₀ k = 12 - k

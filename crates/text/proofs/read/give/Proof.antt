@@ -1,7 +1,7 @@
 use mathlib.Core.Path.{sym, _∙_}
 use borrow.Author.Needs.{needs}
 use Rattle.rules.specs.Verdict.{tableRefusal}
-use Rattle.laws.proofs.Answers.{went-on, stopped}
+use Rattle.laws.proofs.Telling.{went-on, stopped}
 use Rattle.text.proofs.ReadCalls.{given-table}
 use Rattle.text.proofs.read.give.Statement.{statement}
 use Rattle.text.proofs.read.give.Tie as tie

@@ -25,14 +25,14 @@ use Rattle.rules.specs.Table.{primitives, rowCount}
 use Rattle.rules.specs.Told.{wrote, refused, tell, toldWritten}
 use Rattle.rules.specs.Tree.{treeOf}
 use Rattle.rules.specs.Verdict.{tableRefusal}
-use Rattle.laws.specs.Listed.{Listed}
-use Rattle.laws.specs.Listing.{listing}
+use Rattle.laws.specs.EachOnce.{EachOnce}
+use Rattle.laws.specs.Survivors.{survivors}
 use Rattle.laws.specs.Plans.{Plan, plan, ways, count, kth, mask}
 use Rattle.laws.specs.Reach.{reachIn, aliveIn}
 use Rattle.laws.specs.Sound.{Sound}
 use Rattle.laws.proofs.Apart.{mask-in-table}
-use Rattle.laws.proofs.Listed.{listed}
-use Rattle.laws.proofs.Reach.{products-listing}
+use Rattle.laws.proofs.EachOnce.{each-once}
+use Rattle.laws.proofs.Reach.{products-survivors}
 use Rattle.laws.proofs.Soundness.{table-sound}
 use Rattle.laws.proofs.Ways.{choices-ways, ways-count, ways-kth, kth-within}
 use Rattle.laws.proofs.Windows.{window-filled}
@@ -61,11 +61,11 @@ plain-in-table t S =
     (ways-below (plan inOf (treeOf t)) (length (primitives t)) (mask-in-table t S (rowCount t - 1) (omega (arith, S .some-row)) inOf))
 
 -- the products are the list of the ways of choosing, by what shares a point with what
-pub products-are-listing : (t : List ℤ) (w : Window) → Sound t → windowRefusal w ≡ none
-    → products w (primitives t) (treeOf t) ≡ listing (aliveIn w (primitives t)) (reachIn w (primitives t)) (ways (plan inOf (treeOf t)))
-products-are-listing t w S e =
-    products-listing w (primitives t) (window-filled w e) (treeOf t) (plain-in-table t S)
-    ∙ ap (listing (aliveIn w (primitives t)) (reachIn w (primitives t))) (choices-ways inOf (treeOf t))
+pub products-are-survivors : (t : List ℤ) (w : Window) → Sound t → windowRefusal w ≡ none
+    → products w (primitives t) (treeOf t) ≡ survivors (aliveIn w (primitives t)) (reachIn w (primitives t)) (ways (plan inOf (treeOf t)))
+products-are-survivors t w S e =
+    products-survivors w (primitives t) (window-filled w e) (treeOf t) (plain-in-table t S)
+    ∙ ap (survivors (aliveIn w (primitives t)) (reachIn w (primitives t))) (choices-ways inOf (treeOf t))
 
 -- ---- what a call leaves
 
@@ -75,13 +75,13 @@ module _ (t : List ℤ) (w : Window) (before after : List ℕ) (r : Written) (ma
     pub is-over : after ≡ over (zoneList t w) before
     is-over = made .buffer ∙ ap (λ (x : Option Refusal). leave x (zoneList t w) before) fine
 
-    pub list-right : Listed t w after
+    pub list-right : EachOnce t w after
     unfolding zoneList
     list-right =
         let table = first-kept (tableRefusal t) _ fine in
         let window = first-kept (windowRefusal w) _ (table .1) in
-        subst (Listed t w) (sym is-over)
-        (listed t w (window-filled w (window .0)) (plain-in-table t (table-sound t (table .0))) (drop (length (zoneList t w)) before))
+        subst (EachOnce t w) (sym is-over)
+        (each-once t w (window-filled w (window .0)) (plain-in-table t (table-sound t (table .0))) (drop (length (zoneList t w)) before))
 
     pub list-rest : (i : ℕ) → length (zoneList t w) ≤ i → word after i ≡ word before i
     list-rest i l =

@@ -12,7 +12,7 @@ use lib.Dec.{leb}
 use lib.IntN.{ℤ}
 use lib.ListN.{length, drop}
 use lib.Signed.{leZ}
-use Rattle.ground.specs.Lists.{All, below, any, countIf, findIf, orElse, firstOf, rulings}
+use Rattle.ground.specs.Lists.{All, below, anyOf, countIf, findIf, orElse, firstOf, rulings}
 use Rattle.ground.specs.Tests.{if_then_else_}
 use Rattle.ground.proofs.Branches.{false-true, and-left, and-right}
 use Rattle.ground.proofs.Counting.{numbers-below, kept, all-kept, or-else-none, first-kept}
@@ -45,10 +45,10 @@ use Rattle.rules.specs.Verdict.{tableRefusal}
 use Rattle.rules.proofs.Settled.{tree-located-settled}
 use Rattle.rules.proofs.Told.{located-once, searched-once, wrote-none}
 use Rattle.laws.specs.Sound.{Sound}
-use Rattle.laws.proofs.Answers.{holds-point}
-use Rattle.laws.proofs.Made.{made-window, made-accepted, made-sound}
+use Rattle.laws.proofs.Telling.{holds-point}
+use Rattle.laws.proofs.MadePasses.{made-window, made-accepted, made-sound}
 use Rattle.laws.proofs.Placing.{tree-choices}
-use Rattle.laws.proofs.Promise.{is-over}
+use Rattle.laws.proofs.Buffers.{is-over}
 use Rattle.laws.proofs.Pruning.{held-axes, pruning-keeps, primitives-right}
 use Rattle.laws.proofs.Soundness.{unless-kept, table-sound}
 use Rattle.laws.proofs.Spaces.{by-axis}
@@ -110,7 +110,7 @@ module _ {A : Type 0} (p q : A → Bool) where
 module _ (f g : Point → Bool) (samples : List ℤ) (place : Place)
     (agree : (k : ℕ) → k < length samples → f (pointOf place k (codeAt samples k)) ≡ g (pointOf place k (codeAt samples k))) where
   each-sample : All (λ k. sampleInside f samples place k ≡ sampleInside g samples place k) (below (length samples))
-  unfolding any
+  unfolding anyOf
   each-sample =
       all-map (λ k. k < 0 + length samples) (λ k. sampleInside f samples place k ≡ sampleInside g samples place k)
       (λ k l. ap (λ (b : Bool). b || false) (agree k (omega arith))) (below (length samples)) (numbers-below 0 (length samples))
@@ -180,7 +180,7 @@ module _ (t : List ℤ) (w : Window) (before after : List ℕ) (n : ℕ) (made :
       let solids = primitives t in
       let holding : Product → Bool = λ c. insideProduct solids c p in
       ap (λ (list : List ℕ). insideList solids list p) is-list
-      ∙ ap (any holding) (zone-products t w beyond)
+      ∙ ap (anyOf holding) (zone-products t w beyond)
       ∙ pruning-keeps w solids (primitives-right t sound) p held (treeOf t)
       ∙ sym (tree-choices t sound p)
 

@@ -10,19 +10,19 @@ use lib.Bits.{bitAnd}
 use lib.ListN.{length, getD, take, length-append, length-map}
 use lib.Seq.{take-suc, take-nil, take-all, take-length, length-take-le, getD-take}
 use Rattle.ground.specs.Tests.{if_then_else_}
-use Rattle.ground.specs.Lists.{any, keepIf}
+use Rattle.ground.specs.Lists.{anyOf, keepIf}
 use Rattle.ground.proofs.Branches.{false-true, and-left, and-right}
 use Rattle.rules.specs.declared.Product.{Product}
 use Rattle.rules.specs.Products.{same, firsts}
 use Rattle.laws.specs.Plans.{Plan, ways, count, kth, Apart, fresh}
-use Rattle.laws.specs.Listing.{pruned, listing}
+use Rattle.laws.specs.Survivors.{pruned, survivors}
 use Rattle.laws.proofs.Ways.{ways-count, ways-kth}
 use Rattle.laws.proofs.Repeats.{fresh-first, stale-repeat}
 use Rattle.laws.proofs.Kept.{kept-append, kept-length, any-found, found-any, any-made}
 use Rattle.laws.proofs.Firsts.{same-equal, equal-same, firsts-last, firsts-length}
 
-pub listing-all : (p : Plan) → take (count p) (ways p) ≡ ways p
-listing-all p = ap (λ (n : ℕ). take n (ways p)) (sym (ways-count p)) ∙ take-length (ways p)
+pub survivors-all : (p : Plan) → take (count p) (ways p) ≡ ways p
+survivors-all p = ap (λ (n : ℕ). take n (ways p)) (sym (ways-count p)) ∙ take-length (ways p)
 
 module _ (alive : ℕ → Bool) (reach : ℕ → ℕ) where
   -- ---- what one more choice adds
@@ -33,12 +33,12 @@ module _ (alive : ℕ → Bool) (reach : ℕ → ℕ) where
 
   -- a choice stays, and none before it came to its product
   abbrev pub new : List Product → Product → Bool
-  new before c = alive (c .plain) && not (any (comes c) before)
+  new before c = alive (c .plain) && not (anyOf (comes c) before)
 
-  listing-last : (cs : List Product) (c : Product)
-      → listing alive reach (cs ++ (c ∷ [])) ≡ listing alive reach cs ++ (if new cs c then pruned alive reach c ∷ [] else [])
-  unfolding listing keepIf
-  listing-last cs c =
+  survivors-last : (cs : List Product) (c : Product)
+      → survivors alive reach (cs ++ (c ∷ [])) ≡ survivors alive reach cs ++ (if new cs c then pruned alive reach c ∷ [] else [])
+  unfolding survivors keepIf
+  survivors-last cs c =
       ap (λ (l : List Product). firsts (map (pruned alive reach) l)) (kept-append stays cs (c ∷ []))
       ∙ ap firsts (map-append (pruned alive reach) kept (keepIf stays (c ∷ [])))
       ∙ go (alive (c .plain))
@@ -51,12 +51,12 @@ module _ (alive : ℕ → Bool) (reach : ℕ → ℕ) where
 
       go : (b : Bool)
           → firsts (map (pruned alive reach) kept ++ map (pruned alive reach) (if b then c ∷ [] else []))
-          ≡ firsts (map (pruned alive reach) kept) ++ (if b && not (any (comes c) cs) then pruned alive reach c ∷ [] else [])
+          ≡ firsts (map (pruned alive reach) kept) ++ (if b && not (anyOf (comes c) cs) then pruned alive reach c ∷ [] else [])
       go true =
           firsts-last (map (pruned alive reach) kept) (pruned alive reach c)
           ∙ ap (λ (l : List Product). firsts (map (pruned alive reach) kept) ++ l)
           (ap (λ (t : Bool). if t then [] else pruned alive reach c ∷ []) (any-made (λ d. same d (pruned alive reach c)) (pruned alive reach) stays cs)
-          ∙ turn (any (comes c) cs))
+          ∙ turn (anyOf (comes c) cs))
         where
           turn : (t : Bool) → (if t then [] else pruned alive reach c ∷ []) ≡ (if not t then pruned alive reach c ∷ [] else [])
           turn true = refl
@@ -64,14 +64,14 @@ module _ (alive : ℕ → Bool) (reach : ℕ → ℕ) where
       go false = ap firsts (append-nil (map (pruned alive reach) kept)) ∙ sym (append-nil (firsts (map (pruned alive reach) kept)))
 
   module _ (cs : List Product) (d : Product) where
-    pub listing-step : (k : ℕ) → k < length cs → listing alive reach (take (suc k) cs)
-        ≡ listing alive reach (take k cs) ++ (if new (take k cs) (getD cs k d) then pruned alive reach (getD cs k d) ∷ [] else [])
-    listing-step k l = ap (listing alive reach) (take-suc cs k d l) ∙ listing-last (take k cs) (getD cs k d)
+    pub survivors-step : (k : ℕ) → k < length cs → survivors alive reach (take (suc k) cs)
+        ≡ survivors alive reach (take k cs) ++ (if new (take k cs) (getD cs k d) then pruned alive reach (getD cs k d) ∷ [] else [])
+    survivors-step k l = ap (survivors alive reach) (take-suc cs k d l) ∙ survivors-last (take k cs) (getD cs k d)
 
     -- ---- one of the first i choices came to a product, by its place
 
     module _ (i : ℕ) (in-list : i ≤ length cs) (c : Product) where
-      pub came-at : any (comes c) (take i cs) ≡ true
+      pub came-at : anyOf (comes c) (take i cs) ≡ true
           → (j : ℕ) × (j < i) × (alive (getD cs j d .plain) ≡ true) × (pruned alive reach (getD cs j d) ≡ pruned alive reach c)
       came-at h =
           let s = any-found (comes c) d (take i cs) h in
@@ -83,7 +83,7 @@ module _ (alive : ℕ → Bool) (reach : ℕ → ℕ) where
           (s .0, l, and-left (alive (x .plain)) (same p q) t, same-equal p q (and-right (alive (x .plain)) (same p q) t))
 
       pub at-came : (j : ℕ) → j < i → alive (getD cs j d .plain) ≡ true → pruned alive reach (getD cs j d) ≡ pruned alive reach c
-          → any (comes c) (take i cs) ≡ true
+          → anyOf (comes c) (take i cs) ≡ true
       at-came j l a e =
           found-any (comes c) d (take i cs) j (subst (λ (n : ℕ). j < n) (sym (length-take-le i cs in-list)) l)
           (subst (λ (y : Product). comes c y ≡ true) (sym (getD-take i cs j d l))
@@ -92,13 +92,13 @@ module _ (alive : ℕ → Bool) (reach : ℕ → ℕ) where
   -- ---- the choices of a plan, one after another
 
   -- the k-th choice adds its product just if it stays and is fresh
-  pub listing-next : (p : Plan) → Apart p → (k : ℕ) → k < count p → listing alive reach (take (suc k) (ways p))
-      ≡ listing alive reach (take k (ways p))
+  pub survivors-next : (p : Plan) → Apart p → (k : ℕ) → k < count p → survivors alive reach (take (suc k) (ways p))
+      ≡ survivors alive reach (take k (ways p))
       ++ (if alive (kth p k .plain) && fresh p k (reach (kth p k .plain)) then pruned alive reach (kth p k) ∷ [] else [])
-  listing-next p apart k h =
-      listing-step (ways p) c k in-list
-      ∙ ap (λ (x : Product). listing alive reach (take k (ways p)) ++ (if new (take k (ways p)) x then pruned alive reach x ∷ [] else [])) (ways-kth p k c h)
-      ∙ ap (λ (t : Bool). listing alive reach (take k (ways p)) ++ (if t then pruned alive reach c ∷ [] else [])) (go (alive (c .plain)) refl)
+  survivors-next p apart k h =
+      survivors-step (ways p) c k in-list
+      ∙ ap (λ (x : Product). survivors alive reach (take k (ways p)) ++ (if new (take k (ways p)) x then pruned alive reach x ∷ [] else [])) (ways-kth p k c h)
+      ∙ ap (λ (t : Bool). survivors alive reach (take k (ways p)) ++ (if t then pruned alive reach c ∷ [] else [])) (go (alive (c .plain)) refl)
     where
       c : Product
       c = kth p k
@@ -112,7 +112,7 @@ module _ (alive : ℕ → Bool) (reach : ℕ → ℕ) where
       before : List Product
       before = take k (ways p)
 
-      turn : (f t : Bool) → fresh p k (reach (c .plain)) ≡ f → any (comes c) before ≡ t → alive (c .plain) ≡ true → not t ≡ f
+      turn : (f t : Bool) → fresh p k (reach (c .plain)) ≡ f → anyOf (comes c) before ≡ t → alive (c .plain) ≡ true → not t ≡ f
       turn true true f e a =
           let s = came-at (ways p) c k up-to c e in
           let l : s .0 < k = s .1 in
@@ -133,41 +133,41 @@ module _ (alive : ℕ → Bool) (reach : ℕ → ℕ) where
           (subst (λ (x : Product). alive (x .plain) ≡ true) at (ap alive (s .2) ∙ a)) (ap (pruned alive reach) (sym at) ∙ q))
 
       go : (b : Bool) → alive (c .plain) ≡ b → new before c ≡ (alive (c .plain) && fresh p k (reach (c .plain)))
-      go true a = ap (λ (t : Bool). alive (c .plain) && t) (turn (fresh p k (reach (c .plain))) (any (comes c) before) refl refl a)
+      go true a = ap (λ (t : Bool). alive (c .plain) && t) (turn (fresh p k (reach (c .plain))) (anyOf (comes c) before) refl refl a)
       go false a = rw a refl
 
   -- ---- how long
 
-  pub listing-none : (cs : List Product) → listing alive reach (take 0 cs) ≡ []
-  unfolding listing firsts keepIf
-  listing-none cs = refl
+  pub survivors-none : (cs : List Product) → survivors alive reach (take 0 cs) ≡ []
+  unfolding survivors firsts keepIf
+  survivors-none cs = refl
 
-  pub listing-length : (cs : List Product) → length (listing alive reach cs) ≤ length cs
-  unfolding listing
-  listing-length cs =
+  pub survivors-length : (cs : List Product) → length (survivors alive reach cs) ≤ length cs
+  unfolding survivors
+  survivors-length cs =
       let kept = keepIf (λ c. alive (c .plain)) cs in
       omega (arith, firsts-length (map (pruned alive reach) kept), length-map kept (pruned alive reach), kept-length (λ c. alive (c .plain)) cs)
 
   -- the list of some first choices is no longer than the list of all
-  pub listing-grows : (cs : List Product) (k : ℕ) → length (listing alive reach (take k cs)) ≤ length (listing alive reach cs)
-  listing-grows [] k = le-of-eq (ap (λ (l : List Product). length (listing alive reach l)) (take-nil k))
-  listing-grows (d ∷ ds) k = go (length cs) k (omega arith)
+  pub survivors-grows : (cs : List Product) (k : ℕ) → length (survivors alive reach (take k cs)) ≤ length (survivors alive reach cs)
+  survivors-grows [] k = le-of-eq (ap (λ (l : List Product). length (survivors alive reach l)) (take-nil k))
+  survivors-grows (d ∷ ds) k = go (length cs) k (omega arith)
     where
       cs : List Product
       cs = d ∷ ds
 
       size : ℕ → ℕ
-      size k = length (listing alive reach (take k cs))
+      size k = length (survivors alive reach (take k cs))
 
       next : (k : ℕ) → k < length cs → size k ≤ size (suc k)
       next k l =
           let extra = if new (take k cs) (getD cs k d) then pruned alive reach (getD cs k d) ∷ [] else [] in
-          omega (arith, ap length (listing-step cs d k l), length-append (listing alive reach (take k cs)) extra)
+          omega (arith, ap length (survivors-step cs d k l), length-append (survivors alive reach (take k cs)) extra)
 
-      go : (n k : ℕ) → length cs ≤ k + n → size k ≤ length (listing alive reach cs)
-      go zero k h = le-of-eq (ap (λ (l : List Product). length (listing alive reach l)) (take-all k cs (omega arith)))
+      go : (n k : ℕ) → length cs ≤ k + n → size k ≤ length (survivors alive reach cs)
+      go zero k h = le-of-eq (ap (λ (l : List Product). length (survivors alive reach l)) (take-all k cs (omega arith)))
       go (suc n) k h = at (decLe (length cs) k) (go n)
         where
-          at : Dec (length cs ≤ k) → ((k : ℕ) → length cs ≤ k + n → size k ≤ length (listing alive reach cs)) → size k ≤ length (listing alive reach cs)
+          at : Dec (length cs ≤ k) → ((k : ℕ) → length cs ≤ k + n → size k ≤ length (survivors alive reach cs)) → size k ≤ length (survivors alive reach cs)
           at (yes l) f = f k (omega arith)
           at (no l) f = le-trans (next k (omega arith)) (f (suc k) (omega arith))

@@ -12,5 +12,5 @@ module _ (alive : ℕ → Bool) (reach : ℕ → ℕ) where
   abbrev pub pruned : Product → Product
   pruned c = record { plain = c .plain; cuts = bitAnd (c .cuts) (reach (c .plain)) }
 
-  unfoldable pub listing : List Product → List Product
-  listing cs = firsts (map pruned (keepIf (λ c. alive (c .plain)) cs))
+  unfoldable pub survivors : List Product → List Product
+  survivors cs = firsts (map pruned (keepIf (λ c. alive (c .plain)) cs))

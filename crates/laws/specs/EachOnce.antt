@@ -43,7 +43,7 @@ pub record FirstChoices (t : List ℤ) (w : Window) (buffer : List ℕ) : Type 0
   -- a later product has a later first choice
   pub rises : (j k : ℕ) → j < k → k < productCount buffer → place j < place k
 
-pub record Listed (t : List ℤ) (w : Window) (buffer : List ℕ) : Type 0 where
+pub record EachOnce (t : List ℤ) (w : Window) (buffer : List ℕ) : Type 0 where
   -- word 0 is the number of products
   pub number : productCount buffer ≡ length (products w (primitives t) (treeOf t))
   -- the words of that many products are in the buffer

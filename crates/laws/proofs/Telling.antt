@@ -14,7 +14,7 @@ use Rattle.rules.specs.Boxes.{Box, holds}
 use Rattle.rules.specs.Refusals.{refuseUnless}
 use Rattle.rules.specs.Told.{Tale, Told, sound, fine, refused, tell, toldChecked}
 use Rattle.rules.specs.TreeCalls.{pointRefusal}
-use Rattle.laws.specs.Answers.{checkedBy}
+use Rattle.laws.specs.Checking.{checkedBy}
 use Rattle.laws.proofs.Soundness.{unless-kept}
 
 -- what a check that went on, or stopped, found

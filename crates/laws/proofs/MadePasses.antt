@@ -31,14 +31,14 @@ use Rattle.rules.specs.Ranges.{within, columns}
 use Rattle.rules.specs.Refusals.{refuseIf, refuseUnless}
 use Rattle.rules.specs.Table.{primitives, rowCount}
 use Rattle.rules.specs.Tree.{Tree, solid, union, inter, diff, treeOf}
-use Rattle.laws.specs.Listed.{nothing, choice, Listed}
+use Rattle.laws.specs.EachOnce.{nothing, choice, EachOnce}
 use Rattle.laws.specs.Plans.{Plan, with-it, without, either, both, plan, ways, count, kth, mask, Apart}
 use Rattle.laws.specs.Reach.{reachIn, aliveIn}
 use Rattle.laws.specs.Sound.{Sound}
 use Rattle.laws.proofs.Apart.{mask-in-table, table-apart, few-primitives}
-use Rattle.laws.proofs.Listed.{listed}
-use Rattle.laws.proofs.Listing.{listing-length}
-use Rattle.laws.proofs.Promise.{plain-in-table, products-are-listing}
+use Rattle.laws.proofs.EachOnce.{each-once}
+use Rattle.laws.proofs.Survivors.{survivors-length}
+use Rattle.laws.proofs.Buffers.{plain-in-table, products-are-survivors}
 use Rattle.laws.proofs.Ways.{choices-ways, ways-count, ways-kth, kth-within, by-part, place-left, place-right}
 use Rattle.laws.proofs.Windows.{Bounds, window-right, window-filled}
 
@@ -242,8 +242,8 @@ module _ (t : List ℤ) (w : Window) (S : Sound t) (fine : windowRefusal w ≡ n
   abbrev buffer : List ℕ
   buffer = listOf w (length (primitives t)) ps ++ rest
 
-  holds-products : Listed t w buffer
-  holds-products = listed t w (window-filled w fine) (plain-in-table t S) rest
+  holds-products : EachOnce t w buffer
+  holds-products = each-once t w (window-filled w fine) (plain-in-table t S) rest
 
   product-right : (k : ℕ) → k < productCount buffer → Right (length (primitives t)) (productAt buffer k)
   product-right k l =
@@ -266,8 +266,8 @@ module _ (t : List ℤ) (w : Window) (S : Sound t) (fine : windowRefusal w ≡ n
   -- no more products than choices
   products-few : length ps ≤ expansion (treeOf t)
   products-few =
-      rw (products-are-listing t w S fine, choices-ways inOf (treeOf t))
-      (listing-length (aliveIn w (primitives t)) (reachIn w (primitives t)) (ways (plan inOf (treeOf t))))
+      rw (products-are-survivors t w S fine, choices-ways inOf (treeOf t))
+      (survivors-length (aliveIn w (primitives t)) (reachIn w (primitives t)) (ways (plan inOf (treeOf t))))
 
   -- a list that was made passes the checks; only so many choices give a list at all
   pub made-sound : expansion (treeOf t) ≤ mostChoices → listRefusal (zoneList t w ++ rest) ≡ none

@@ -19,11 +19,11 @@ use Rattle.rules.specs.ListWords.{listOf, productCount, productAt}
 use Rattle.rules.specs.Products.{products}
 use Rattle.rules.specs.Table.{primitives}
 use Rattle.rules.specs.Tree.{treeOf}
-use Rattle.laws.specs.Listed.{nothing, choice, kept, made, FirstChoices, Listed}
-use Rattle.laws.specs.Listing.{pruned, listing}
+use Rattle.laws.specs.EachOnce.{nothing, choice, kept, made, FirstChoices, EachOnce}
+use Rattle.laws.specs.Survivors.{pruned, survivors}
 use Rattle.laws.specs.Reach.{reachIn, aliveIn}
-use Rattle.laws.proofs.Origins.{Origins, listing-order, listing-has, listing-distinct}
-use Rattle.laws.proofs.Reach.{alive-exact, trimmed-pruned, products-listing}
+use Rattle.laws.proofs.Origins.{Origins, survivors-order, survivors-has, survivors-distinct}
+use Rattle.laws.proofs.Reach.{alive-exact, trimmed-pruned, products-survivors}
 use Rattle.laws.proofs.Words.{list-length, list-count, list-product}
 
 -- for a window that is not empty, and choices of the table's primitives only; whatever stands after the list
@@ -47,13 +47,13 @@ module _ (t : List ℤ) (w : Window) (filled : empty (windowBox w) ≡ false)
   abbrev reach : ℕ → ℕ
   reach = reachIn w solids
 
-  same-list : ps ≡ listing alive reach cs
-  same-list = products-listing w solids filled (treeOf t) of-table
+  same-list : ps ≡ survivors alive reach cs
+  same-list = products-survivors w solids filled (treeOf t) of-table
 
-  in-list : {k : ℕ} → k < productCount buffer → k < length (listing alive reach cs)
+  in-list : {k : ℕ} → k < productCount buffer → k < length (survivors alive reach cs)
   in-list {k} = subst (λ (xs : List Product). k < length xs) same-list
 
-  reads : (k : ℕ) → k < productCount buffer → productAt buffer k ≡ getD (listing alive reach cs) k nothing
+  reads : (k : ℕ) → k < productCount buffer → productAt buffer k ≡ getD (survivors alive reach cs) k nothing
   reads k l = list-product w (length solids) ps rest nothing k l ∙ ap (λ (xs : List Product). getD xs k nothing) same-list
 
   kept-alive : (i : ℕ) → i < length cs → kept t w i ≡ alive (choice t i .plain)
@@ -63,7 +63,7 @@ module _ (t : List ℤ) (w : Window) (filled : empty (windowBox w) ≡ false)
   made-pruned i = trimmed-pruned w solids (choice t i)
 
   origins : Origins alive reach cs nothing
-  origins = listing-order alive reach cs nothing
+  origins = survivors-order alive reach cs nothing
 
   module _ (k : ℕ) (l : k < productCount buffer) where
     abbrev origin : ℕ
@@ -95,16 +95,16 @@ module _ (t : List ℤ) (w : Window) (filled : empty (windowBox w) ≡ false)
 
   is-there : (i : ℕ) → i < length cs → kept t w i ≡ true → (k : ℕ) × (k < productCount buffer) × (productAt buffer k ≡ made t w i)
   is-there i l s =
-      let found = listing-has alive reach cs nothing i l (sym (kept-alive i l) ∙ s) in
+      let found = survivors-has alive reach cs nothing i l (sym (kept-alive i l) ∙ s) in
       let k : found .0 < productCount buffer = subst (λ (xs : List Product). found .0 < length xs) (sym same-list) (found .1) in
       (found .0, k, reads (found .0) k ∙ found .2 ∙ sym (made-pruned i s))
 
-  pub listed : Listed t w buffer
-  listed = record {
+  pub each-once : EachOnce t w buffer
+  each-once = record {
     number = list-count w (length solids) ps rest;
     room = omega (arith, length-append (listOf w (length solids) ps) rest, list-length w (length solids) ps);
     from = λ k l. (origin k l, origin-choice k l, origin-kept k l, origin-gives k l);
     has = is-there;
-    distinct = λ j k h l e. listing-distinct alive reach cs nothing j k h (in-list l) (sym (reads j (lt-trans h l)) ∙ e ∙ reads k l);
+    distinct = λ j k h l e. survivors-distinct alive reach cs nothing j k h (in-list l) (sym (reads j (lt-trans h l)) ∙ e ∙ reads k l);
     order = first-choices;
   }
