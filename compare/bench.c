@@ -100,9 +100,8 @@ static struct result ours, theirs;
 /* No work here earns a refusal, which would be quick. */
 static void add(struct result *result, struct lampholly_answer answer)
 {
-    if (answer.kind == LAMPHOLLY_REFUSED)
+    if (answer.refusal)
         abort();
-    result->sum.kind += answer.kind;
     result->sum.value += answer.value;
     result->sum.count += answer.count;
 }

@@ -133,7 +133,7 @@ static struct lampholly_answer ask_library(const struct question *q)
 /* What is wrong with the outcome, NULL for nothing. */
 static const char *fault(struct plain_answer want, struct lampholly_answer got)
 {
-    if (want.kind != got.kind || want.value != got.value || want.count != got.count)
+    if (want.refusal != got.refusal || want.value != got.value || want.count != got.count)
         return "the answers differ";
     if (!holds(&table.lent, table.content))
         return "the table's buffer differs";
@@ -152,8 +152,8 @@ void ask(struct question question)
     struct lampholly_answer got = ask_library(&question);
     const char *what = fault(want, got);
     if (what != NULL) {
-        printf("differ: %s: plain %" PRIu64 " %" PRIu64 " %" PRIu64, what, want.kind, want.value, want.count);
-        printf(", library %" PRIu64 " %" PRIu64 " %" PRIu64 "\n", got.kind, got.value, got.count);
+        printf("differ: %s: plain %" PRIu64 " %" PRIu64 " %" PRIu64, what, want.refusal, want.value, want.count);
+        printf(", library %" PRIu64 " %" PRIu64 " %" PRIu64 "\n", got.refusal, got.value, got.count);
         print_place();
         exit(1);
     }

@@ -34,14 +34,14 @@ static struct plain_answer make_list(const struct table *table, struct lampholly
 {
     struct plain_window window = {w.xlo, w.xhi, w.ylo, w.yhi, w.zlo, w.zhi};
     struct plain_answer made = plain_make_list(table->word, table->words, window, list.word, LIST_ROOM);
-    list.words = made.kind == 0 ? made.value : 0;
+    list.words = made.refusal == 0 ? made.value : 0;
     return made;
 }
 
 static void ask_make_list(struct lampholly_window window)
 {
     struct plain_answer made = make_list(&lent_zone, window);
-    size_t needed = made.kind == 0 ? made.value : 8;
+    size_t needed = made.refusal == 0 ? made.value : 8;
     struct question make = {.call = MAKE_LIST, .table = &lent_zone, .window = window};
     make.room = any_room(needed, LIST_ROOM);
     ask(make);
@@ -89,7 +89,7 @@ static void ask_write_text(void)
 {
     struct plain_answer written = plain_write_text(lent_zone.word, lent_zone.words, text.byte, TEXT_ROOM);
     struct question write = {.call = WRITE_TEXT, .table = &lent_zone};
-    write.room = any_room(written.kind == 0 ? written.value : 20, TEXT_ROOM);
+    write.room = any_room(written.refusal == 0 ? written.value : 20, TEXT_ROOM);
     ask(write);
 }
 

@@ -77,7 +77,7 @@ struct lampholly_answer peer_write_out(const int32_t *table, size_t words, struc
 {
     struct peer_zone zone;
     struct lampholly_answer answer = peer_prepare(table, words, window, &zone);
-    if (answer.kind == LAMPHOLLY_REFUSED)
+    if (answer.refusal)
         return answer;
     struct choices all = written_out(&zone, zone.rows - 1, 1);
     struct peer_box whole = box_of_window(window);
@@ -157,7 +157,7 @@ struct lampholly_answer peer_expand(const int32_t *table, size_t words, struct l
 {
     struct peer_zone zone;
     struct lampholly_answer answer = peer_prepare(table, words, window, &zone);
-    if (answer.kind == LAMPHOLLY_REFUSED)
+    if (answer.refusal)
         return answer;
     struct parts parts = expanded(&zone, zone.rows - 1, 1, box_of_window(window));
     struct product *products = room_for(parts.count, sizeof products[0]);

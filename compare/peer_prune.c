@@ -32,9 +32,9 @@ static struct lampholly_answer check_window(struct lampholly_window w)
 struct lampholly_answer peer_prepare(const int32_t *table, size_t words, struct lampholly_window window, struct peer_zone *zone)
 {
     struct lampholly_answer check = peer_open(table, words, zone);
-    if (check.kind != LAMPHOLLY_REFUSED)
+    if (!check.refusal)
         check = check_window(window);
-    if (check.kind == LAMPHOLLY_REFUSED)
+    if (check.refusal)
         return check;
     uint64_t choices = count(zone, zone->rows - 1, 1);
     return choices > MOST_CHOICES ? peer_refused(7, choices) : check;

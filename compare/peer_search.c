@@ -37,7 +37,7 @@ static int in_tree(const struct peer_zone *zone, int32_t number, int64_t x, int6
 
 static struct lampholly_answer found(uint64_t position, uint64_t samples)
 {
-    struct lampholly_answer hit = {LAMPHOLLY_INSIDE, position, samples};
+    struct lampholly_answer hit = {0, position, samples};
     return samples == 0 ? peer_done(0) : hit;
 }
 
@@ -46,9 +46,9 @@ struct lampholly_answer peer_tree_search(const int32_t *table, size_t words,
 {
     struct peer_zone zone;
     struct lampholly_answer check = peer_open(table, words, &zone);
-    if (check.kind != LAMPHOLLY_REFUSED)
+    if (!check.refusal)
         check = check_frame(samples, first, frame);
-    if (check.kind == LAMPHOLLY_REFUSED)
+    if (check.refusal)
         return check;
     uint64_t position = 0, inside = 0;
     for (size_t k = 0; k < samples; k++) {
@@ -102,13 +102,13 @@ static struct lampholly_answer check_all(const int32_t *table, size_t words, con
                                          struct peer_zone *zone)
 {
     struct lampholly_answer check = peer_open(table, words, zone);
-    if (check.kind != LAMPHOLLY_REFUSED)
+    if (!check.refusal)
         check = check_list(list, list_words);
-    if (check.kind != LAMPHOLLY_REFUSED && list[7] != (uint64_t)zone->primitives)
+    if (!check.refusal && list[7] != (uint64_t)zone->primitives)
         check = peer_refused(11, (uint64_t)zone->primitives);
-    if (check.kind != LAMPHOLLY_REFUSED)
+    if (!check.refusal)
         check = check_frame(samples, first, frame);
-    if (check.kind != LAMPHOLLY_REFUSED)
+    if (!check.refusal)
         check = check_window(list, codes, samples, first, frame);
     return check;
 }
@@ -148,7 +148,7 @@ struct lampholly_answer peer_list_search(const int32_t *table, size_t words, con
 {
     struct peer_zone zone;
     struct lampholly_answer check = check_all(table, words, list, list_words, codes, samples, first, frame, &zone);
-    if (check.kind == LAMPHOLLY_REFUSED)
+    if (check.refusal)
         return check;
     uint64_t position = 0, inside = 0;
     for (size_t k = 0; k < samples; k++) {
@@ -165,7 +165,7 @@ struct lampholly_answer peer_mask_search(const int32_t *table, size_t words, con
 {
     struct peer_zone zone;
     struct lampholly_answer check = check_all(table, words, list, list_words, codes, samples, first, frame, &zone);
-    if (check.kind == LAMPHOLLY_REFUSED)
+    if (check.refusal)
         return check;
     uint64_t position = 0, inside = 0;
     for (size_t k = 0; k < samples; k++) {

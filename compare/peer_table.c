@@ -3,13 +3,13 @@
 
 struct lampholly_answer peer_done(uint64_t written)
 {
-    struct lampholly_answer answer = {LAMPHOLLY_DONE, written, 0};
+    struct lampholly_answer answer = {0, written, 0};
     return answer;
 }
 
 struct lampholly_answer peer_refused(uint64_t number, uint64_t value)
 {
-    struct lampholly_answer answer = {LAMPHOLLY_REFUSED, number, value};
+    struct lampholly_answer answer = {number, value, 0};
     return answer;
 }
 
@@ -87,7 +87,7 @@ static void open_primitive(struct peer_zone *zone, struct peer_row *row, const i
 struct lampholly_answer peer_open(const int32_t *table, size_t words, struct peer_zone *zone)
 {
     struct lampholly_answer check = peer_check(table, words);
-    if (check.kind == LAMPHOLLY_REFUSED)
+    if (check.refusal)
         return check;
     zone->rows = (int32_t)(words / ROW_WORDS);
     zone->primitives = 0;

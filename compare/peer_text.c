@@ -71,7 +71,7 @@ struct lampholly_answer peer_read_text(const uint8_t *text, size_t bytes, int32_
     if (at != end)
         return peer_refused(13, (uint64_t)rows + 2);
     struct lampholly_answer check = peer_check(fresh, words);
-    if (check.kind == LAMPHOLLY_REFUSED)
+    if (check.refusal)
         return check;
     if (words > room)
         return peer_refused(8, words);
@@ -114,7 +114,7 @@ struct lampholly_answer peer_write_text(const int32_t *table, size_t words, uint
 {
     uint8_t written[16384], *at = written;
     struct lampholly_answer check = peer_check(table, words);
-    if (check.kind == LAMPHOLLY_REFUSED)
+    if (check.refusal)
         return check;
     memcpy(at, "zone\t", 5);
     at = write_number(at + 5, (int64_t)(words / ROW_WORDS));

@@ -5,11 +5,12 @@
 #include <stddef.h>
 #include <stdint.h>
 
-/* kind 0: clear, outside, sound, or written (value: words or bytes written, else 0)
-   kind 1: inside (0, 0), or hit (value: position of the first inside sample, count: inside samples)
-   kind 2: refused (value: the refusal's number, count: its value) */
+/* refusal: the number of the refusal, 0 for none
+   value: the refusal's; or 1 inside, 0 outside; or the words or bytes written; or the position of the first inside sample
+   count: the inside samples of a hit
+   What is not named is 0. */
 struct plain_answer {
-    uint64_t kind, value, count;
+    uint64_t refusal, value, count;
 };
 
 struct plain_window {

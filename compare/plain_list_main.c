@@ -11,7 +11,7 @@ static uint64_t list[8192];
 
 static void print_refusal(struct plain_answer answer)
 {
-    printf("refused\t%" PRIu64 "\t%" PRIu64 "\n", answer.value, answer.count);
+    printf("refused\t%" PRIu64 "\t%" PRIu64 "\n", answer.refusal, answer.value);
 }
 
 static void print_list(void)
@@ -26,9 +26,9 @@ int main(void)
     struct plain_window full = {-32768, 32767, -32768, 32767, -32768, 32767};
     size_t bytes = fread(text, 1, sizeof text, stdin);
     struct plain_answer answer = plain_read_text(text, bytes, table, sizeof table / sizeof table[0]);
-    if (answer.kind != 2)
+    if (answer.refusal == 0)
         answer = plain_make_list(table, answer.value, full, list, sizeof list / sizeof list[0]);
-    if (answer.kind == 2)
+    if (answer.refusal != 0)
         print_refusal(answer);
     else
         print_list();

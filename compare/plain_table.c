@@ -9,7 +9,7 @@ struct plain_answer plain_done(uint64_t written)
 
 struct plain_answer plain_inside(int inside)
 {
-    struct plain_answer answer = {inside ? 1 : 0, 0, 0};
+    struct plain_answer answer = {0, inside ? 1 : 0, 0};
     return answer;
 }
 
@@ -17,19 +17,19 @@ struct plain_answer plain_inside(int inside)
 struct plain_answer plain_found(uint64_t position, uint64_t inside_samples)
 {
     struct plain_answer clear = {0, 0, 0};
-    struct plain_answer hit = {1, position, inside_samples};
+    struct plain_answer hit = {0, position, inside_samples};
     return inside_samples == 0 ? clear : hit;
 }
 
 struct plain_answer plain_refused(uint64_t number, uint64_t value)
 {
-    struct plain_answer answer = {2, number, value};
+    struct plain_answer answer = {number, value, 0};
     return answer;
 }
 
 int plain_is_refused(struct plain_answer answer)
 {
-    return answer.kind == 2;
+    return answer.refusal != 0;
 }
 
 int plain_in_range(int64_t value)

@@ -16,15 +16,31 @@ static const int refusals_of[CALLS][REFUSALS] = {
     {1, 2, 3, 4, 5, 9, 11, 10}, {1, 2, 3, 4, 5, 9, 11, 12, 10}, {13, 3, 4, 5, 8},    {1, 2, 3, 4, 5, 8},
 };
 
-/* Answers of kind 0 and 1 by call, and refusals by call and number. */
+/* Answers by call, those with a point or a sample inside apart from the others, and refusals by call and number. */
 static uint64_t answered[CALLS][2], refused[CALLS][REFUSALS + 1];
+
+static int asks_point(enum call call)
+{
+    return call == TREE_POINT || call == LIST_POINT;
+}
+
+static int asks_inside(enum call call)
+{
+    return asks_point(call) || call == TREE_SEARCH || call == LIST_SEARCH;
+}
+
+/* Only a point's value tells whether it is inside; only a hit has a count. */
+static int is_inside(enum call call, struct plain_answer answer)
+{
+    return asks_point(call) ? answer.value != 0 : answer.count != 0;
+}
 
 void tally(enum call call, struct plain_answer answer)
 {
-    if (answer.kind < 2)
-        answered[call][answer.kind]++;
+    if (answer.refusal == 0)
+        answered[call][is_inside(call, answer)]++;
     else
-        refused[call][answer.value]++;
+        refused[call][answer.refusal]++;
 }
 
 static uint64_t calls_asked(void)
@@ -56,17 +72,12 @@ void print_tally(uint64_t seed, uint64_t cases)
     printf("\n");
 }
 
-static int has_kind_1(int call)
-{
-    return call == TREE_POINT || call == TREE_SEARCH || call == LIST_POINT || call == LIST_SEARCH;
-}
-
 /* Was every answer and refusal that the rules give a call seen of that call? Names those that were not. */
 int is_all_seen(void)
 {
     int all = 1;
     for (int call = 0; call < CALLS; call++) {
-        if (answered[call][0] == 0 || (has_kind_1(call) && answered[call][1] == 0)) {
+        if (answered[call][0] == 0 || (asks_inside(call) && answered[call][1] == 0)) {
             printf("differ: an answer of %s was never seen\n", call_name[call]);
             all = 0;
         }

@@ -256,13 +256,13 @@ static void ask_point(const struct zone *zone, const int32_t *bound, const uint6
     int out = first_out(bound, point);
     if (out < 3) {
         tally->beside++;
-        tally->refused += by_list.kind == 2 && by_list.value == 10 && by_list.count == (uint64_t)out;
+        tally->refused += by_list.refusal == 10 && by_list.value == (uint64_t)out;
         return;
     }
     struct plain_answer by_tree = plain_tree_point(table, table_words, point[X], point[Y], point[Z]);
     tally->compared++;
-    tally->inside += by_list.kind == 1;
-    tally->disagree += by_list.kind == 2 || by_list.kind != by_tree.kind;
+    tally->inside += by_list.refusal == 0 && by_list.value == 1;
+    tally->disagree += by_list.refusal != 0 || by_tree.refusal != 0 || by_list.value != by_tree.value;
 }
 
 static struct tally ask_all(const struct zone *zone, const int32_t *bound, const uint64_t *list, size_t words,
@@ -308,8 +308,8 @@ static void try_window(const struct zone *zone, const int32_t *bound)
     for (int b = 0; b < 6; b++)
         printf("\t%" PRId32, bound[b]);
     struct plain_answer made = plain_make_list(zone->row[0], 12 * zone->rows, window, list, COUNT(list));
-    if (made.kind == 2) {
-        printf("\trefused\t%" PRIu64 "\t%" PRIu64 "\n", made.value, made.count);
+    if (made.refusal != 0) {
+        printf("\trefused\t%" PRIu64 "\t%" PRIu64 "\n", made.refusal, made.value);
         return;
     }
     printf("\t%" PRIu64, list[0]);

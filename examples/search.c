@@ -17,9 +17,9 @@ static const int16_t codes[40] = {0}; /* a quiet frame: the code 0 in columns 0 
 
 static int refused(const char *call, struct lampholly_answer answer)
 {
-    if (answer.kind == LAMPHOLLY_REFUSED)
-        printf("%s: refused %" PRIu64 ", value %" PRIu64 "\n", call, answer.value, answer.count);
-    return answer.kind == LAMPHOLLY_REFUSED;
+    if (answer.refusal)
+        printf("%s: refused %" PRIu64 ", value %" PRIu64 "\n", call, answer.refusal, answer.value);
+    return answer.refusal != 0;
 }
 
 int main(int argc, char **argv)
@@ -40,7 +40,7 @@ int main(int argc, char **argv)
     if (refused("search", found))
         return 1;
 
-    if (found.kind == LAMPHOLLY_INSIDE)
+    if (found.count)
         printf("hit: first at position %" PRIu64 ", %" PRIu64 " samples inside\n", found.value, found.count);
     else
         printf("clear\n");

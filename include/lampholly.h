@@ -30,18 +30,20 @@
 extern "C" {
 #endif
 
-/* The three kinds of answer. */
-#define LAMPHOLLY_DONE 0    /* clear, outside, sound, or written: value is the words or bytes written, else 0 */
-#define LAMPHOLLY_INSIDE 1  /* inside: 0, 0; or hit: value is the first inside position, count the inside samples */
-#define LAMPHOLLY_REFUSED 2 /* refused: value is the refusal's number, count its value */
-
 /* What always suffices: a table of 127 rows, a list of 65,536 products, the longest text that can be read. */
 #define LAMPHOLLY_TABLE_WORDS 1524
 #define LAMPHOLLY_LIST_WORDS 131080
 #define LAMPHOLLY_TEXT_BYTES 16384
 
+/* What a call answers. `refusal` is 0 where nothing is refused; then `value` and `count` are
+      0, 0                sound, outside, clear
+      1, 0                inside
+      n, 0                written: n words or bytes
+      position, count     hit: the first inside sample, and how many there are, which is never 0
+   Where something is refused, `refusal` is the number of the refusal, `value` its value, and `count` 0.
+   So `if (answer.refusal)` is the whole test for a refusal, and `answer.count` tells a hit from clear. */
 struct lampholly_answer {
-    uint64_t kind, value, count;
+    uint64_t refusal, value, count;
 };
 
 /* Both bounds of an axis belong to the window. x is the column, y the code, z the frame number. */
@@ -55,13 +57,13 @@ struct lampholly_window {
 struct lampholly_answer lampholly_check(const int32_t *table, size_t words);
 
 /* Is the point in the zone?
-   Answers: outside (0, 0, 0) or inside (1, 0, 0).
+   Answers: outside (0, 0, 0) or inside (0, 1, 0).
    Refusals: the table's; then
      10  the point is out of -32768..32767      value: first bad axis, 0..2 */
 struct lampholly_answer lampholly_tree_point(const int32_t *table, size_t words, int32_t x, int32_t y, int32_t z);
 
 /* Searches a frame: sample k, counted from 0, is the point (first + k, codes[k], frame).
-   Answers: clear (0, 0, 0), or hit (1, position of the first inside sample, number of inside samples).
+   Answers: clear (0, 0, 0), or hit (0, position of the first inside sample, number of inside samples).
    Refusals: the table's; then
      12  no sample or over 65,536               value: 0
          a column out of -32768..32767          value: 1
@@ -83,7 +85,7 @@ struct lampholly_answer lampholly_make_list(const int32_t *table, size_t words, 
 /* Is the point in the list? It is when, for some product, it is in every uncomplemented primitive and in no complemented
    one. A list that lampholly_make_list made from this table agrees with the tree at every point of its window.
    A list may be lent longer than its products need; the rest is not read.
-   Answers: outside (0, 0, 0) or inside (1, 0, 0).
+   Answers: outside (0, 0, 0) or inside (0, 1, 0).
    Refusals: the table's; then
       9  the list is malformed                   value: word of the first fault; if under 8 words are lent, their number
      11  list and table differ in the number of primitives      value: the table's
@@ -92,7 +94,7 @@ struct lampholly_answer lampholly_list_point(const int32_t *table, size_t words,
                                              const uint64_t *list, size_t list_words, int32_t x, int32_t y, int32_t z);
 
 /* Searches a frame by the list; samples as in lampholly_tree_search, inside as in lampholly_list_point.
-   Answers: clear (0, 0, 0), or hit (1, position of the first inside sample, number of inside samples).
+   Answers: clear (0, 0, 0), or hit (0, position of the first inside sample, number of inside samples).
    Refusals: the table's; then
       9, 11  as in lampholly_list_point
      12  as in lampholly_tree_search

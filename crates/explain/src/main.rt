@@ -1,5 +1,7 @@
 // The teaching program: every way of choosing of a zone, in order, and what becomes of it in a window, a line each. To be read beside the rules.
 // Letters name the primitives: A is primitive 0.
+mod limits;
+
 use rules::BoxShape;
 use rules::Product;
 use rules::Refusal;
@@ -325,4 +327,5 @@ fn main() {
     case_4();
     case_6();
     other_axes();
+    limits::all();
 }

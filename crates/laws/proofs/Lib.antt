@@ -32,6 +32,7 @@ pub mod Held
 pub mod TextLengths
 pub mod Texts
 pub mod Outcomes
+pub mod Possible
 pub mod Searches
 pub mod Copies
 pub mod Promises

@@ -7,4 +7,5 @@ pub mod Reach
 pub mod EachOnce
 pub mod SoundList
 pub mod Held
+pub mod Possible
 pub mod Promises

@@ -1,11 +1,4 @@
 // Lists every text of data/, 00, 01, .., as the listing program does, and prints its number before it.
-fn list_file(fd: i32) {
-    let mut text: [u8; 16385] = [0; 16385];
-    let read = io::read_full(fd, &mut text);
-    let mut out: [u8; 171890] = [0; 171890];
-    let size = print::list_zone(&text[..read], &mut out);
-    io::write_all(1, &out[..size]);
-}
 
 // Lists the text of this number, and answers whether there is one.
 fn list_numbered(k: u64) -> bool {
@@ -18,7 +11,7 @@ fn list_numbered(k: u64) -> bool {
     }
     io::write_all(1, &name);
     io::write_all(1, b": ");
-    list_file(fd);
+    pipe::list_from(fd);
     libc::close(fd);
     true
 }

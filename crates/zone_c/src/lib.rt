@@ -14,20 +14,24 @@ ghost use Rattle.rules.specs.TextCalls.{TextRead, TextWritten};
 ghost use Rattle.zone_c.specs.Answers.{answerOf, Answered};
 ghost use Rattle.zone_c.specs.Lent.{point, place};
 
-// Kind 0: sound, outside, clear, or written (value: how many words or bytes). Kind 1: inside, or hit (value: the first position, count: the
-// number of inside samples). Kind 2: refused (value: the number of the refusal, count: its value). What is not named is 0.
+// The refusal's number, 0 where nothing is refused; then its value, 1 for inside, the words or bytes written, or the position of the first inside
+// sample; then the number of inside samples. What is not named is 0.
 #[repr(C)]
 pub struct Answer {
-    pub kind: u64,
+    pub refusal: u64,
     pub value: u64,
     pub count: u64,
 }
 
 // The answer with these numbers.
-fn numbers(kind: u64, value: u64, count: u64) -> Answer
-    ensures { λ r. ⌜ r ≡ record { kind = kind; value = value; count = count } ⌝ }
+fn numbers(refusal: u64, value: u64, count: u64) -> Answer
+    ensures { λ r. ⌜ r ≡ record { refusal = refusal; value = value; count = count } ⌝ }
 {
-    Answer { kind, value, count }
+    Answer {
+        refusal,
+        value,
+        count,
+    }
 }
 
 // The answer of the check of a table.
@@ -36,7 +40,7 @@ fn of_checked(checked: Checked) -> Answer
 {
     match checked {
         Checked::Sound => numbers(0, 0, 0),
-        Checked::Refused(refusal) => numbers(2, refusal.number, refusal.value),
+        Checked::Refused(refusal) => numbers(refusal.number, refusal.value, 0),
     }
 }
 
@@ -46,8 +50,8 @@ fn of_located(located: Located) -> Answer
 {
     match located {
         Located::Outside => numbers(0, 0, 0),
-        Located::Inside => numbers(1, 0, 0),
-        Located::Refused(refusal) => numbers(2, refusal.number, refusal.value),
+        Located::Inside => numbers(0, 1, 0),
+        Located::Refused(refusal) => numbers(refusal.number, refusal.value, 0),
     }
 }
 
@@ -57,8 +61,8 @@ fn of_searched(searched: Searched) -> Answer
 {
     match searched {
         Searched::Clear => numbers(0, 0, 0),
-        Searched::Hit { first, count } => numbers(1, first as u64, count as u64),
-        Searched::Refused(refusal) => numbers(2, refusal.number, refusal.value),
+        Searched::Hit { first, count } => numbers(0, first as u64, count as u64),
+        Searched::Refused(refusal) => numbers(refusal.number, refusal.value, 0),
     }
 }
 
@@ -68,7 +72,7 @@ fn of_written(written: Written) -> Answer
 {
     match written {
         Written::Wrote(n) => numbers(0, n as u64, 0),
-        Written::Refused(refusal) => numbers(2, refusal.number, refusal.value),
+        Written::Refused(refusal) => numbers(refusal.number, refusal.value, 0),
     }
 }
 

@@ -1,8 +1,8 @@
 use mathlib.Core.Path.{sym}
 use borrow.Author.Needs.{needs}
 use lib.Seq.{length-take-le}
-use Rattle.listing.proofs.main.Statement.{statement}
-use Rattle.listing.proofs.main.Tie as tie
+use Rattle.pipe.proofs.list_from.Statement.{statement}
+use Rattle.pipe.proofs.list_from.Tie as tie
 
 slice-aggregate-read-full : tie.Need-slice-aggregate-read-full
 slice-aggregate-read-full c = search needs
@@ -34,8 +34,8 @@ write-all-requires c κs = search needs
 returns : tie.Need-returns
 returns c = search needs
 
-pub main-spec : {M : Type 1} → statement M
-main-spec =
+pub list-from-spec : {M : Type 1} → statement M
+list-from-spec =
     tie.close
     (tie.spec
     slice-aggregate-read-full

@@ -1,0 +1,183 @@
+-- Whatever meets the record of a call tells what is possible: its refusals have numbers of the table, and its hits a count. Assumes nothing.
+use Prim.Native.Nat.{ℕ, suc, _-_, _≤_}
+use native.Mathlib.Omega.{arith}
+use mathlib.Core.Bool.{Bool, true, false, _&&_}
+use mathlib.Core.List.{List, [], _∷_, map, flatMap}
+use mathlib.Core.Option.{Option, none, some}
+use mathlib.Core.Path.{_≡_, refl, sym, subst}
+use borrow.Author.Tests.{leb-true}
+use lib.Dec.{leb}
+use lib.IntN.{ℤ}
+use lib.ListN.{length}
+use Rattle.ground.specs.Lists.{All, below, rest, countIf, findIf, firstOf, rulings}
+use Rattle.ground.specs.Tests.{if_then_else_}
+use Rattle.ground.proofs.Branches.{and-left, and-right}
+use Rattle.ground.proofs.Lists.{all-append, all-flatMap}
+use Rattle.ground.proofs.Pieces.{all-each, all-mapped}
+use Rattle.rules.specs.declared.Checked.{Checked}
+use Rattle.rules.specs.declared.Kind.{Kind}
+use Rattle.rules.specs.declared.Located.{Located}
+use Rattle.rules.specs.declared.Place.{Place}
+use Rattle.rules.specs.declared.Point.{Point}
+use Rattle.rules.specs.declared.Refusal.{Refusal}
+use Rattle.rules.specs.declared.Searched.{Searched}
+use Rattle.rules.specs.declared.Window.{Window}
+use Rattle.rules.specs.declared.Written.{Written}
+use Rattle.rules.specs.Boxes.{Box, holds}
+use Rattle.rules.specs.Frame.{codeAt, pointOf, frameRefusal, leavesRefusal, sampleInside, firstInside, insideCount}
+use Rattle.rules.specs.Inside.{inside}
+use Rattle.rules.specs.ListCalls.{windowRefusal, makeRefusal, ListMade, listPointRefusal, ListLocated, listSearchRefusal, ListSearched}
+use Rattle.rules.specs.ListFaults.{headerRefusals, productRefusals, listRefusal}
+use Rattle.rules.specs.ListInside.{insideList}
+use Rattle.rules.specs.ListWords.{productCount}
+use Rattle.rules.specs.Refusals.{refuse, refuseIf, refuseUnless}
+use Rattle.rules.specs.Table.{primitives, rowCount, kindAt, wordAt}
+use Rattle.rules.specs.TextCalls.{formRefusal, readRefusal, TextRead, writeRefusal, TextWritten}
+use Rattle.rules.specs.TextForm.{TextForm, too-long, faulty, spelt}
+use Rattle.rules.specs.Told.{Tale, Told, sound, fine, tell, toldChecked, toldLocated, toldSearched, toldWritten}
+use Rattle.rules.specs.Tree.{treeOf}
+use Rattle.rules.specs.TreeCalls.{pointRefusal, pointTale, searchTale, TableChecked, treePointRefusal, TreeLocated, treeSearchRefusal, TreeSearched}
+use Rattle.rules.specs.Verdict.{rowRefusalBy, rowRefusal, rowsRefusal, childOnce, childRefusal, tableRefusal}
+use Rattle.laws.specs.Possible.{lastRefusal, InTable, Possible}
+
+-- ---- a rule refuses nothing, or by a number of the table
+
+record Tabled (rule : Option Refusal) : Type 0 where
+  number : {q : Refusal} → rule ≡ some q → InTable (q .number)
+
+none-tabled : Tabled none
+none-tabled = record { number = λ e. let z : _≡_ {A = ℕ} 0 1 = cc in absurd (omega arith) }
+
+-- a numeral passes this test by itself
+abbrev inTable : ℕ → Bool
+inTable number = leb 1 number && leb number lastRefusal
+
+refuse-tabled : (number value : ℕ) → inTable number ≡ true → Tabled (refuse number value)
+refuse-tabled number value i =
+    let low = leb-true 1 number (and-left (leb 1 number) (leb number lastRefusal) i) in
+    let high = leb-true number lastRefusal (and-right (leb 1 number) (leb number lastRefusal) i) in
+    record { number = λ {q} e. let same : number ≡ q .number = cc in subst InTable same (low, high) }
+
+if-tabled : (b : Bool) (number value : ℕ) → inTable number ≡ true → Tabled (refuseIf b number value)
+if-tabled true number value i = refuse-tabled number value i
+if-tabled false number value i = none-tabled
+
+unless-tabled : (b : Bool) (number value : ℕ) → inTable number ≡ true → Tabled (refuseUnless b number value)
+unless-tabled true number value i = none-tabled
+unless-tabled false number value i = refuse-tabled number value i
+
+-- the first of several rules that is broken
+first-tabled : (rules : List (Option Refusal)) → All Tabled rules → Tabled (firstOf rules)
+unfolding firstOf
+first-tabled [] all = none-tabled
+first-tabled (none ∷ rules) all = first-tabled rules (all .1)
+first-tabled (some q ∷ rules) all = all .0
+
+rulings-tabled : (rule : ℕ → Option Refusal) → ((k : ℕ) → Tabled (rule k)) → (k n : ℕ) → Tabled (rulings rule k n)
+rulings-tabled rule each k n = first-tabled (map rule (rest k n)) (all-mapped Tabled rule each (rest k n))
+
+ruleset tabled = (if-tabled, unless-tabled, refuse-tabled, first-tabled)
+
+-- ---- the rules of the calls
+
+row-tabled : (kind : Option Kind) (w : ℕ → ℤ) (row : ℕ) → Tabled (rowRefusalBy kind w row)
+row-tabled none w row = search tabled
+row-tabled (some kind) w row = search tabled
+
+rows-tabled : (t : List ℤ) → Tabled (rowsRefusal t)
+rows-tabled t = rulings-tabled (rowRefusal t) (λ row. row-tabled (kindAt t row) (wordAt t row) row) 0 (rowCount t)
+
+child-tabled : (t : List ℤ) → Tabled (childRefusal t)
+child-tabled t = rulings-tabled (λ row. refuseUnless (childOnce t row) 5 row) (λ row. search tabled) 0 (rowCount t - 1)
+
+table-tabled : (t : List ℤ) → Tabled (tableRefusal t)
+unfolding tableRefusal
+table-tabled t = search (tabled, rows-tabled, child-tabled)
+
+point-tabled : (box : Box) (p : Point) → Tabled (pointRefusal box p)
+point-tabled box p = search tabled
+
+frame-tabled : (samples : List ℤ) (place : Place) → Tabled (frameRefusal samples place)
+frame-tabled samples place = search tabled
+
+leaves-tabled : (window : Box) (samples : List ℤ) (place : Place) → Tabled (leavesRefusal window samples place)
+leaves-tabled window samples place =
+    rulings-tabled (λ k. refuseUnless (holds window (pointOf place k (codeAt samples k))) 10 k) (λ k. search tabled) 0 (length samples)
+
+list-tabled : (list : List ℕ) → Tabled (listRefusal list)
+unfolding listRefusal
+list-tabled list =
+    let header : All Tabled (headerRefusals list) = search tabled in
+    let numbers = below (productCount list) in
+    let products = all-flatMap (λ k. Unit {0}) Tabled (productRefusals list) (λ k u. search tabled) numbers (all-each (λ k. Unit {0}) (λ k. tt) numbers) in
+    first-tabled _ (search tabled, all-append Tabled (headerRefusals list) (flatMap (productRefusals list) numbers) header products)
+
+window-tabled : (w : Window) → Tabled (windowRefusal w)
+window-tabled w = search tabled depth 8
+
+form-tabled : {text : List ℕ} (form : TextForm text) → Tabled (formRefusal form)
+form-tabled (too-long over) = search tabled
+form-tabled (faulty line short fault) = search tabled
+form-tabled (spelt rows short some-row not-over right is) = none-tabled
+
+ruleset calls = (tabled, table-tabled, point-tabled, frame-tabled, leaves-tabled, list-tabled, window-tabled, form-tabled)
+
+-- ---- what is told by such a rule, or else by a tale that is possible where nothing is refused
+
+told-possible : (rule : Option Refusal) (tale : Tale) → Tabled rule → Possible (fine tale) → {told : Told} → told ≡ tell rule tale → Possible told
+told-possible none tale tabled possible e = subst Possible (sym e) possible
+told-possible (some q) tale tabled possible e = subst Possible (sym e) (tabled .number refl)
+
+point-possible : (b : Bool) → Possible (fine (pointTale b))
+point-possible true = refl
+point-possible false = refl
+
+-- what is found is counted
+found-counted : (test : ℕ → Bool) (ks : List ℕ) {first : ℕ} → findIf test ks ≡ some first → 1 ≤ countIf test ks
+unfolding findIf countIf
+found-counted test [] e = let z : _≡_ {A = ℕ} 0 1 = cc in absurd (omega arith)
+found-counted test (k ∷ ks) {first} e = go (test k) e (found-counted test ks)
+  where
+    go : (b : Bool) → (if b then some k else findIf test ks) ≡ some first → (findIf test ks ≡ some first → 1 ≤ countIf test ks)
+        → 1 ≤ (if b then suc (countIf test ks) else countIf test ks)
+    go true is later = omega arith
+    go false is later = later is
+
+found-possible : (found : Option ℕ) (count : ℕ) → ((first : ℕ) → found ≡ some first → 1 ≤ count) → Possible (fine (searchTale found count))
+found-possible none count counted = refl
+found-possible (some first) count counted = (refl, counted first refl)
+
+search-possible : (isInside : Point → Bool) (samples : List ℤ) (place : Place)
+    → Possible (fine (searchTale (firstInside isInside samples place) (insideCount isInside samples place)))
+unfolding firstInside insideCount
+search-possible isInside samples place =
+    found-possible _ _ (λ first e. found-counted (sampleInside isInside samples place) (below (length samples)) e)
+
+-- ---- the calls
+
+pub check-possible : {t : List ℤ} {r : Checked} → TableChecked t r → Possible (toldChecked r)
+check-possible {t} m = told-possible (tableRefusal t) sound (table-tabled t) refl (m .answer)
+
+pub tree-point-possible : {t : List ℤ} {p : Point} {r : Located} → TreeLocated t p r → Possible (toldLocated r)
+tree-point-possible {t} {p} m = told-possible (treePointRefusal t p) _ (search calls depth 9) (point-possible (inside (treeOf t) p)) (m .answer)
+
+pub tree-search-possible : {t samples : List ℤ} {place : Place} {r : Searched} → TreeSearched t samples place r → Possible (toldSearched r)
+tree-search-possible {t} {samples} {place} m =
+    told-possible (treeSearchRefusal t samples place) _ (search calls depth 9) (search-possible (inside (treeOf t)) samples place) (m .answer)
+
+pub make-list-possible : {t : List ℤ} {w : Window} {before after : List ℕ} {r : Written} → ListMade t w before after r → Possible (toldWritten r)
+make-list-possible {t} {w} {before} m = told-possible (makeRefusal t w (length before)) _ (search calls depth 9) refl (m .answer)
+
+pub list-point-possible : {t : List ℤ} {list : List ℕ} {p : Point} {r : Located} → ListLocated t list p r → Possible (toldLocated r)
+list-point-possible {t} {list} {p} m = told-possible (listPointRefusal t list p) _ (search calls depth 9) (point-possible (insideList (primitives t) list p)) (m .answer)
+
+pub list-search-possible : {t : List ℤ} {list : List ℕ} {samples : List ℤ} {place : Place} {r : Searched}
+    → ListSearched t list samples place r → Possible (toldSearched r)
+list-search-possible {t} {list} {samples} {place} m =
+    told-possible (listSearchRefusal t list samples place) _ (search calls depth 9) (search-possible (insideList (primitives t) list) samples place) (m .answer)
+
+pub read-text-possible : {text : List ℕ} {before after : List ℤ} {r : Written} → TextRead text before after r → Possible (toldWritten r)
+read-text-possible {before = before} m = told-possible (readRefusal (m .form) (length before)) _ (search calls depth 9) refl (m .answer)
+
+pub write-text-possible : {t : List ℤ} {before after : List ℕ} {r : Written} → TextWritten t before after r → Possible (toldWritten r)
+write-text-possible {t} {before} m = told-possible (writeRefusal t (length before)) _ (search calls depth 9) refl (m .answer)
