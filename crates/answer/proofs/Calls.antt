@@ -20,7 +20,7 @@ use Rattle.rules.specs.declared.Refusal.{Refusal}
 use Rattle.rules.specs.declared.Searched.{Searched}
 use Rattle.rules.specs.declared.Searched.the-variants as searched
 use Rattle.rules.specs.Frame.{frameRefusal, leavesRefusal, sampleInside, firstInside, insideCount}
-use Rattle.rules.specs.ListCalls.{ListLocated, ListSearched}
+use Rattle.rules.specs.ListCalls.{acceptRefusal, ListLocated, ListSearched}
 use Rattle.rules.specs.ListFaults.{headerRefusals, productRefusals, listRefusal, primitivesRefusal}
 use Rattle.rules.specs.ListInside.{insideList}
 use Rattle.rules.specs.ListWords.{headerWords, listWindow, productCount, primitiveCount}
@@ -30,7 +30,6 @@ use Rattle.rules.specs.Told.{Tale, Told, fine, refused, tell, toldLocated, told
 use Rattle.rules.specs.TreeCalls.{pointRefusal, pointTale, searchTale}
 use Rattle.rules.specs.Verdict.{tableRefusal}
 use Rattle.laws.specs.Checking.{checkedBy}
-use Rattle.laws.proofs.ListAsTree.{checks-pass}
 use Rattle.laws.proofs.Telling.{told-now, told-later, told-fine}
 use Rattle.laws.proofs.SoundLists.{first-append, first-rulings}
 use Rattle.laws.proofs.Soundness.{unless-kept}
@@ -79,14 +78,12 @@ module _ (list : List ℕ) where
 -- ---- table and list together
 
 module _ (t : List ℤ) (list : List ℕ) where
-  abbrev pub rules : List (Option Refusal)
-  rules = tableRefusal t ∷ listRefusal list ∷ primitivesRefusal (primitives t) list ∷ []
-
-  pub accepted : firstOf rules ≡ none → Accepted t list
+  pub accepted : acceptRefusal t list ≡ none → Accepted t list
+  unfolding acceptRefusal
   accepted e =
       let a = first-kept (tableRefusal t) (listRefusal list ∷ primitivesRefusal (primitives t) list ∷ []) e in
       let b = first-kept (listRefusal list) (primitivesRefusal (primitives t) list ∷ []) (a .1) in
-      record { table = a .0; listed = b .0; counts = first-kept (primitivesRefusal (primitives t) list) [] (b .1) .0 }
+      record { accepts = e; table = a .0; listed = b .0; counts = first-kept (primitivesRefusal (primitives t) list) [] (b .1) .0 }
 
   -- the list has as many primitives as the table
   pub same-counts : Accepted t list → primitiveCount list ≡ length (primitives t)
@@ -94,12 +91,12 @@ module _ (t : List ℤ) (list : List ℕ) where
       eqb-true (primitiveCount list) (length (primitives t)) (unless-kept (eqb (primitiveCount list) (length (primitives t))) 11 (length (primitives t)) (A .counts))
 
   -- what a call tells, by the rules that come after these
-  refused-by : {r : Refusal} → firstOf rules ≡ some r → (more : List (Option Refusal)) (tale : Tale) → refused r ≡ tell (firstOf (rules ++ more)) tale
-  refused-by h more tale =
-      sym (ap (λ (x : Option Refusal). tell x tale) (first-append rules more ∙ ap (λ (x : Option Refusal). orElse x (firstOf more)) h))
+  module _ (more : List (Option Refusal)) (tale : Tale) where
+    refused-by : {r : Refusal} → acceptRefusal t list ≡ some r → refused r ≡ tell (firstOf (acceptRefusal t list ∷ more)) tale
+    refused-by = told-now (acceptRefusal t list) more tale
 
-  goes-on : Accepted t list → (more : List (Option Refusal)) (tale : Tale) {told : Told} → told ≡ tell (firstOf more) tale → told ≡ tell (firstOf (rules ++ more)) tale
-  goes-on A more tale e = e ∙ sym (ap (λ (x : Option Refusal). tell x tale) (checks-pass t list (A .table) (A .listed) (A .counts) more))
+    goes-on : Accepted t list → {told : Told} → told ≡ tell (firstOf more) tale → told ≡ tell (firstOf (acceptRefusal t list ∷ more)) tale
+    goes-on A = told-later (acceptRefusal t list) more tale (A .accepts)
 
   module _ (p : Point) where
     abbrev answer : Tale
@@ -108,15 +105,15 @@ module _ (t : List ℤ) (list : List ℕ) where
     abbrev window : Option Refusal
     window = pointRefusal (listWindow list) p
 
-    pub point-refused : {r : Refusal} → firstOf rules ≡ some r → ListLocated t list p (located.Refused r)
-    point-refused h = record { answer = refused-by h (window ∷ []) answer }
+    pub point-refused : {r : Refusal} → acceptRefusal t list ≡ some r → ListLocated t list p (located.Refused r)
+    point-refused h = record { answer = refused-by (window ∷ []) answer h }
 
     module _ (A : Accepted t list) where
       pub point-out : {r : Refusal} → window ≡ some r → ListLocated t list p (located.Refused r)
-      point-out k = record { answer = goes-on A (window ∷ []) answer (told-now window [] answer k) }
+      point-out k = record { answer = goes-on (window ∷ []) answer A (told-now window [] answer k) }
 
       located-fine : (r : Located) → window ≡ none → toldLocated r ≡ fine answer → ListLocated t list p r
-      located-fine r k e = record { answer = e ∙ goes-on A (window ∷ []) answer (told-later window [] answer k (told-fine answer)) }
+      located-fine r k e = record { answer = e ∙ goes-on (window ∷ []) answer A (told-later window [] answer k (told-fine answer)) }
 
       pub point-inside : window ≡ none → insideList (primitives t) list p ≡ true → ListLocated t list p located.Inside
       point-inside k i = located-fine located.Inside k (ap (λ (b : Bool). fine (pointTale b)) (sym i))
@@ -134,16 +131,16 @@ module _ (t : List ℤ) (list : List ℕ) where
     abbrev leaves : Option Refusal
     leaves = leavesRefusal (listWindow list) samples place
 
-    pub search-refused : {r : Refusal} → firstOf rules ≡ some r → ListSearched t list samples place (searched.Refused r)
-    search-refused h = record { answer = refused-by h (frameRefusal samples place ∷ leaves ∷ []) tale }
+    pub search-refused : {r : Refusal} → acceptRefusal t list ≡ some r → ListSearched t list samples place (searched.Refused r)
+    search-refused h = record { answer = refused-by (frameRefusal samples place ∷ leaves ∷ []) tale h }
 
     module _ (A : Accepted t list) where
       pub search-frame : {r : Refusal} → frameRefusal samples place ≡ some r → ListSearched t list samples place (searched.Refused r)
-      search-frame k = record { answer = goes-on A (frameRefusal samples place ∷ leaves ∷ []) tale (told-now (frameRefusal samples place) (leaves ∷ []) tale k) }
+      search-frame k = record { answer = goes-on (frameRefusal samples place ∷ leaves ∷ []) tale A (told-now (frameRefusal samples place) (leaves ∷ []) tale k) }
 
       module _ (f : frameRefusal samples place ≡ none) where
-        framed : {told : Told} → told ≡ tell (firstOf (leaves ∷ [])) tale → told ≡ tell (firstOf (rules ++ (frameRefusal samples place ∷ leaves ∷ []))) tale
-        framed e = goes-on A (frameRefusal samples place ∷ leaves ∷ []) tale (told-later (frameRefusal samples place) (leaves ∷ []) tale f e)
+        framed : {told : Told} → told ≡ tell (firstOf (leaves ∷ [])) tale → told ≡ tell (firstOf (acceptRefusal t list ∷ frameRefusal samples place ∷ leaves ∷ [])) tale
+        framed e = goes-on (frameRefusal samples place ∷ leaves ∷ []) tale A (told-later (frameRefusal samples place) (leaves ∷ []) tale f e)
 
         pub search-leaves : {r : Refusal} → leaves ≡ some r → ListSearched t list samples place (searched.Refused r)
         search-leaves k = record { answer = framed (told-now leaves [] tale k) }

@@ -12,6 +12,7 @@ use Rattle.rules.specs.declared.Point.{Point}
 use Rattle.rules.specs.declared.Primitive.{Primitive}
 use Rattle.rules.specs.declared.Refusal.{Refusal}
 use Rattle.rules.specs.Inside.{insideSolid}
+use Rattle.rules.specs.ListCalls.{acceptRefusal}
 use Rattle.rules.specs.ListFaults.{listRefusal, primitivesRefusal}
 use Rattle.rules.specs.ListWords.{word}
 use Rattle.rules.specs.Refusals.{refuseIf}
@@ -32,8 +33,9 @@ boundsBy list i most =
 abbrev pub holding : Point → Primitive → Bool
 holding p s = insideSolid s p
 
--- a table and a list that have passed, each by itself and then together
+-- a table and a list that have passed: all checks, and each of them
 pub record Accepted (t : List ℤ) (list : List ℕ) : Type 0 where
+  pub accepts : acceptRefusal t list ≡ none
   pub table : tableRefusal t ≡ none
   pub listed : listRefusal list ≡ none
   pub counts : primitivesRefusal (primitives t) list ≡ none

@@ -8,9 +8,9 @@ ghost use mathlib.Core.Path.{_≡_};
 ghost use lib.ListN.{length};
 ghost use Rattle.ground.specs.Lists.{firstOf, rulings};
 ghost use Rattle.rules.specs.Table.{rowCount, primitivesBefore, primitives};
-ghost use Rattle.rules.specs.Verdict.{tableRefusal};
 ghost use Rattle.rules.specs.ListWords.{headerWords, primitiveCount, placeOf, productAt};
 ghost use Rattle.rules.specs.ListFaults.{countRight, primitivesRight, productRefusals, headerRefusals, listRefusal, primitivesRefusal};
+ghost use Rattle.rules.specs.ListCalls.{acceptRefusal};
 ghost use Rattle.rules.specs.Refusals.{refuseIf, refuseUnless};
 ghost use Rattle.laws.specs.Checking.{checkedBy};
 ghost use Rattle.laws.specs.Sound.{Sound};
@@ -195,7 +195,7 @@ fn check_against(table: &[i32], list: &[u64]) -> Checked
 }
 
 pub fn check_both(table: &[i32], list: &[u64]) -> Checked
-    ensures { λ r. ⌜ r ≡ checkedBy (firstOf (tableRefusal (now (table .entry)) ∷ listRefusal (now (list .entry)) ∷ primitivesRefusal (primitives (now (table .entry))) (now (list .entry)) ∷ [])) ⌝ }
+    ensures { λ r. ⌜ r ≡ checkedBy (acceptRefusal (now (table .entry)) (now (list .entry))) ⌝ }
 {
     let checked = table::check(table);
     match checked {

@@ -8,7 +8,7 @@ use mathlib.Core.Path.{_≡_, refl, sym, ap, ap₂, subst, _∙_}
 use borrow.Author.Tests.{le-leb}
 use lib.IntN.{ℤ, pos}
 use lib.ListN.{length, getD, take, drop, replicate, length-append, length-map, length-take, length-drop, length-replicate, List·getD-append}
-use lib.Seq.{take-all, take-add, take-at, take-append-seam, getD-take, getD-drop}
+use lib.Seq.{take-all, take-add, take-at, getD-take, getD-drop}
 use Rattle.ground.specs.Lists.{from, rest, below, allOf, firstOf, All}
 use Rattle.ground.specs.Tests.{eqZ}
 use Rattle.ground.proofs.Branches.{and-left, and-right}
@@ -19,25 +19,22 @@ use Rattle.ground.proofs.Signed.{eqZ-eq}
 use Rattle.rules.specs.declared.Kind.{Kind}
 use Rattle.rules.specs.declared.Kind.the-variants.{Box, Wedge, Drum, Union, Inter, Diff}
 use Rattle.rules.specs.declared.Refusal.{Refusal}
-use Rattle.rules.specs.declared.Written.{Written}
 use Rattle.rules.specs.declared.Written.the-variants.{Wrote}
 use Rattle.rules.specs.Fields.{fieldsRight, spareRight, childrenRight}
 use Rattle.rules.specs.Kinds.{kindNumber, namedWords, kindOf}
 use Rattle.rules.specs.Outcome.{leave}
 use Rattle.rules.specs.Refusals.{refuseUnless}
 use Rattle.rules.specs.Table.{rowWords, rowCount, wordAt, kindAt}
-use Rattle.rules.specs.Text.{TextRow, textOf, textRowBy, textRows, tableRow, tableOf}
-use Rattle.rules.specs.TextCalls.{tableRead, formRefusal, readRefusal, TextRead, tableText, writeRefusal, TextWritten}
-use Rattle.rules.specs.TextForm.{mostBytes, Word32, RightRow, TextForm, too-long, faulty, spelt}
-use Rattle.rules.specs.Told.{fine, wrote, tell, toldWritten}
+use Rattle.rules.specs.Text.{TextRow, textRowBy, textRows, tableRow, tableOf}
+use Rattle.rules.specs.TextCalls.{tableRead, formRefusal, readRefusal, TextRead, tableText, writeRefusal}
+use Rattle.rules.specs.TextForm.{mostBytes, Word32, RightRow}
+use Rattle.rules.specs.Told.{fine, wrote, tell}
 use Rattle.rules.specs.Verdict.{lengthRefusal, rowRefusalBy, rowRefusal, rowsRefusal, tableRefusal}
 use Rattle.rules.proofs.Lines.{noRow}
-use Rattle.rules.proofs.Settled.{form-once}
 use Rattle.rules.proofs.Told.{wrote-none}
 use Rattle.laws.specs.Sound.{Sound}
 use Rattle.laws.proofs.Apart.{next-row}
 use Rattle.laws.proofs.KindNumbers.{number-kind, kind-number}
-use Rattle.laws.proofs.Outcomes.{read-answer}
 use Rattle.laws.proofs.Soundness.{unless-kept, table-sound}
 use Rattle.laws.proofs.TextLengths.{few-named, Named, text-most}
 
@@ -196,97 +193,17 @@ module _ (t : List ℤ) (kept : tableRefusal t ≡ none) where
 
 -- ---- the calls
 
--- a call with a result to write, and x to refuse: where x is none, it wrote the result
-none-wrote : {A : Type 0} (x : Option Refusal) (result before : List A) {after : List A} (r : Written)
-    → toldWritten r ≡ tell x (wrote (length result)) → after ≡ leave x result before → x ≡ none
-    → (toldWritten r ≡ fine (wrote (length result))) × (take (length result) after ≡ result)
-none-wrote x result before r answer buffer e = (
-  answer ∙ ap (λ (y : Option Refusal). tell y (wrote (length result))) e,
-  ap (take (length result)) (buffer ∙ ap (λ (y : Option Refusal). leave y result before) e) ∙ take-append-seam result _,
-)
-
--- and where it wrote, x was none
+-- a call with a result to write, and x to refuse, that wrote so many words or bytes: x was none
 pub wrote-result : {A : Type 0} (x : Option Refusal) (result before : List A) {after : List A} {n : ℕ}
     → fine (wrote n) ≡ tell x (wrote (length result)) → after ≡ leave x result before → (x ≡ none) × (take n after ≡ result)
 wrote-result x result before {n = n} answer buffer =
     let (e, size) = wrote-none x (length result) n answer in
     (e, ap (take n) (buffer ∙ ap (λ (y : Option Refusal). leave y result before) e) ∙ take-at result _ n (sym size))
 
--- an accepted text is the text of the table that is read from it
-spelt-back : {text : List ℕ} (form : TextForm text) → formRefusal form ≡ none → tableText (tableRead form) ≡ text
-unfolding tableText
-spelt-back (too-long over) e = cc
-spelt-back (faulty line short fault) e = cc
-spelt-back (spelt rows short some-row not-over right is) e =
-    ap textOf (rows-again rows (all-map RightRow Named (λ row h. h .named) rows right)) ∙ sym is
-
--- a sound table's text is accepted, and that table is read from it
-text-accepted : {text : List ℕ} (form : TextForm text) (t : List ℤ) → All Word32 t → tableRefusal t ≡ none → text ≡ tableText t
-    → (formRefusal form ≡ none) × (tableRead form ≡ t)
-unfolding tableText
-text-accepted {text} form t fit kept is = (once .0, once .1 ∙ rows-back t kept)
-  where
-    own : TextForm text
-    own =
-        let S = table-sound t kept in
-        let short : length text ≤ mostBytes = subst (λ (bytes : List ℕ). length bytes ≤ mostBytes) (sym is) (text-short t kept) in
-        let rows = rows-count t kept in
-        spelt (textRows t) short (omega (arith, S .some-row)) (omega (arith, S .not-over)) (rows-right t fit) is
-
-    once : (formRefusal form ≡ none) × (tableRead form ≡ tableOf (textRows t))
-    once = form-once form own
-
 -- nothing is refused: a sound table, and room
-read-fine : {text : List ℕ} (form : TextForm text) (room : ℕ) → formRefusal form ≡ none → tableRefusal (tableRead form) ≡ none
-    → length (tableRead form) ≤ room → readRefusal form room ≡ none
-unfolding firstOf
-read-fine form room accepted kept fits = rw (accepted, kept, le-leb (length (tableRead form)) room fits)
-
 pub write-fine : (t : List ℤ) (room : ℕ) → tableRefusal t ≡ none → length (tableText t) ≤ room → writeRefusal t room ≡ none
 unfolding firstOf
 write-fine t room kept fits = rw (kept, le-leb (length (tableText t)) room fits)
-
--- a sound table's text is written, and a right text of a sound table is read, where there is room
-pub writes-text : {t : List ℤ} {before text : List ℕ} {r : Written} → TextWritten t before text r → tableRefusal t ≡ none
-    → length (tableText t) ≤ length before → toldWritten r ≡ fine (wrote (length (tableText t)))
-writes-text {t} {before} {r = r} written kept fits =
-    none-wrote (writeRefusal t (length before)) (tableText t) before r (written .answer) (written .buffer) (write-fine t (length before) kept fits) .0
-
-pub reads-text : {text : List ℕ} (form : TextForm text) {room table : List ℤ} {r : Written} → TextRead text room table r
-    → formRefusal form ≡ none → tableRefusal (tableRead form) ≡ none → length (tableRead form) ≤ length room
-    → toldWritten r ≡ fine (wrote (length (tableRead form)))
-reads-text form {room} read right kept fits =
-    read-answer form read ∙ ap (λ (x : Option Refusal). tell x (wrote (length (tableRead form)))) (read-fine form (length room) right kept fits)
-
--- a table's text, written and then read, gives the table
-pub table-text-table : {t : List ℤ} {before text : List ℕ} {r : Written} {n : ℕ} → All Word32 t → TextWritten t before text r
-    → toldWritten r ≡ fine (wrote n)
-    → {room after : List ℤ} {s : Written} → TextRead (take n text) room after s → length t ≤ length room
-    → (toldWritten s ≡ fine (wrote (length t))) × (take (length t) after ≡ t)
-table-text-table {t} {before} fit written told {room} {after} {s} read fits =
-    let form = read .form in
-    let done = wrote-result (writeRefusal t (length before)) (tableText t) before (sym told ∙ written .answer) (written .buffer) in
-    let kept = first-kept (tableRefusal t) _ (done .0) .0 in
-    let accepted = text-accepted form t fit kept (done .1) in
-    let same : tableRead form ≡ t = accepted .1 in
-    let nothing = read-fine form (length room) (accepted .0) (ap tableRefusal same ∙ kept) (rw same fits) in
-    subst (λ (table : List ℤ). (toldWritten s ≡ fine (wrote (length table))) × (take (length table) after ≡ table)) same
-    (none-wrote (readRefusal form (length room)) (tableRead form) room s (read .answer) (read .buffer) nothing)
-
--- a text that was accepted, written again, is as it was
-pub text-table-text : {text : List ℕ} {room table : List ℤ} {r : Written} {n : ℕ} → TextRead text room table r → toldWritten r ≡ fine (wrote n)
-    → {before after : List ℕ} {s : Written} → TextWritten (take n table) before after s → length text ≤ length before
-    → (toldWritten s ≡ fine (wrote (length text))) × (take (length text) after ≡ text)
-text-table-text {text} {room} {table} {n = n} read told {before} {after} {s} written fits =
-    let form = read .form in
-    let t = take n table in
-    let done = wrote-result (readRefusal form (length room)) (tableRead form) room (sym told ∙ read .answer) (read .buffer) in
-    let accepted = first-kept (formRefusal form) _ (done .0) in
-    let kept = first-kept (tableRefusal (tableRead form)) _ (accepted .1) .0 in
-    let same : tableText t ≡ text = ap tableText (done .1) ∙ spelt-back form (accepted .0) in
-    let nothing = write-fine t (length before) (ap tableRefusal (done .1) ∙ kept) (rw same fits) in
-    subst (λ (bytes : List ℕ). (toldWritten s ≡ fine (wrote (length bytes))) × (take (length bytes) after ≡ bytes)) same
-    (none-wrote (writeRefusal t (length before)) (tableText t) before s (written .answer) (written .buffer) nothing)
 
 -- a text that was accepted: its table lies in the buffer, and is sound
 module _ {text : List ℕ} {room table : List ℤ} {m : ℕ} (read : TextRead text room table (Wrote m)) where

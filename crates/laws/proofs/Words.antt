@@ -15,7 +15,7 @@ use Rattle.rules.specs.ListWords.{headerOf, wordsOf, listOf, word, productCount
 use Rattle.rules.specs.Products.{products}
 use Rattle.rules.specs.Table.{primitives}
 use Rattle.rules.specs.Tree.{treeOf}
-use Rattle.laws.specs.EachOnce.{nothing}
+use Rattle.laws.specs.Plans.{nothing}
 
 pub words-length : (ps : List Product) → length (flatMap wordsOf ps) ≡ 2 * length ps
 unfolding flatMap

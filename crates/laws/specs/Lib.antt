@@ -1,11 +1,7 @@
 pub mod Sound
 pub mod Checking
-pub mod Sets
 pub mod Plans
 pub mod Survivors
 pub mod Reach
-pub mod EachOnce
 pub mod SoundList
 pub mod Held
-pub mod Possible
-pub mod Promises

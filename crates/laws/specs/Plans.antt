@@ -30,6 +30,10 @@ only i = record { plain = 2 ^ i; cuts = 0 }
 abbrev pub except : ℕ → Product
 except i = record { plain = 0; cuts = 2 ^ i }
 
+-- what is read past the last choice
+abbrev pub nothing : Product
+nothing = record { plain = 0; cuts = 0 }
+
 -- the choices of a plan, in order; how many; the k-th
 unfoldable pub ways : Plan → List Product
 ways (with-it i) = only i ∷ []

@@ -7,7 +7,7 @@ use mathlib.Core.Path.{_≡_, refl, sym, ap, subst, _∙_}
 use borrow.Author.Tests.{leb-true}
 use lib.Dec.{leb}
 use lib.IntN.{ℤ}
-use lib.ListN.{length, drop}
+use lib.ListN.{length, drop, length-append}
 use Rattle.ground.proofs.Counting.{first-kept}
 use Rattle.rules.specs.declared.Product.{Product}
 use Rattle.rules.specs.declared.Refusal.{Refusal}
@@ -24,9 +24,9 @@ use Rattle.rules.specs.Table.{primitives}
 use Rattle.rules.specs.Tree.{treeOf}
 use Rattle.rules.specs.Verdict.{tableRefusal}
 use Rattle.rules.proofs.Told.{wrote-none, refused-some}
-use Rattle.laws.proofs.Buffers.{is-over, list-right}
 use Rattle.laws.proofs.Soundness.{unless-kept}
-use Rattle.laws.proofs.Words.{list-length, zone-products}
+use Rattle.laws.proofs.Words.{list-length, list-count, zone-products}
+use Rattle.laws.proofs.ZoneProducts.{is-over}
 use Rattle.print.specs.Lines.{tableListing}
 use Rattle.print.proofs.Lengths.{list-most, refusal-most}
 
@@ -77,13 +77,17 @@ module _ (t : List ℤ) where
 
       made-products : productsIn after ≡ all
       made-products =
-          ap productsIn (is-over t fullRange before after (Wrote n) made fine)
+          ap productsIn (is-over made fine)
           ∙ zone-products t fullRange (drop (length (zoneList t fullRange)) before)
 
       pub made-listing : tableListing t ≡ listLines (productsIn after)
       made-listing = ap (λ (x : Option Refusal). printed x all) enough ∙ ap listLines (sym made-products)
 
       pub made-whole : (placeOf (productCount after) ≤ length after) × (productCount after ≤ 4092)
+      unfolding zoneList
       made-whole =
-          let listed = list-right t fullRange before after (Wrote n) made fine in
-          (listed .room, omega (arith, listed .number, few-products enough))
+          let beyond = drop (length (zoneList t fullRange)) before in
+          let counted : productCount after ≡ length all = ap productCount (is-over made fine) ∙ list-count fullRange (length (primitives t)) all beyond in
+          let words = ap (λ (list : List ℕ). length list) (is-over made fine) ∙ length-append (zoneList t fullRange) beyond in
+          let size = list-length fullRange (length (primitives t)) all in
+          (omega (arith, counted, words, size), omega (arith, counted, few-products enough))

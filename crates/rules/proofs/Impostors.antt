@@ -37,7 +37,7 @@ use Rattle.rules.specs.Text.{TextRow, decimalIn}
 use Rattle.rules.specs.TextForm.{spelt}
 use Rattle.rules.specs.Outcome.{over}
 use Rattle.rules.specs.TreeCalls.{TableChecked, TreeLocated, TreeSearched}
-use Rattle.rules.specs.ListCalls.{zoneList, ListMade, ListLocated, ListSearched}
+use Rattle.rules.specs.ListCalls.{zoneList, ListMade, acceptRefusal, ListLocated, ListSearched}
 use Rattle.rules.specs.TextCalls.{TextRead, tableText, TextWritten}
 use Rattle.rules.proofs.Zones.{nought, box, union, inter, diff, q, columnsOf, at}
 use Rattle.rules.proofs.Settled.{checked-settled, tree-located-settled, tree-searched-settled, list-made-settled}
@@ -82,11 +82,11 @@ unfolding tableRefusal trees choices _crossed-with_ firsts products zoneList fro
 right-make = record { answer = refl; buffer = refl }
 
 pub right-list-point : ListLocated q qList (at 8 0) located.Inside
-unfolding tableRefusal listRefusal insideProduct insideList from allOf anyOf countIf findIf firstOf selected flatMap
+unfolding tableRefusal listRefusal acceptRefusal insideProduct insideList from allOf anyOf countIf findIf firstOf selected flatMap
 right-list-point = record { answer = refl }
 
 pub right-list-search : ListSearched q qList three from19 (searched.Hit 1 2)
-unfolding tableRefusal listRefusal insideProduct insideList firstInside insideCount from allOf anyOf countIf findIf firstOf selected flatMap
+unfolding tableRefusal listRefusal acceptRefusal insideProduct insideList firstInside insideCount from allOf anyOf countIf findIf firstOf selected flatMap
 right-list-search = record { answer = refl }
 
 abbrev oneBox : List ℤ
@@ -171,7 +171,7 @@ unfolding tableRefusal trees inside firstInside insideCount from allOf anyOf cou
 right-tree-leaving = record { answer = refl }
 
 pub right-list-leaving : ListSearched q qList leaving from19 searched.Clear
-unfolding tableRefusal listRefusal insideProduct insideList firstInside insideCount from allOf anyOf countIf findIf firstOf selected flatMap
+unfolding tableRefusal listRefusal acceptRefusal insideProduct insideList firstInside insideCount from allOf anyOf countIf findIf firstOf selected flatMap
 right-list-leaving = record { answer = refl }
 
 pub tree-first-sample-only : (r : Searched) → TreeSearched q three from19 r → TreeSearched q leaving from19 r → ⊥

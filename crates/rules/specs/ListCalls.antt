@@ -67,24 +67,21 @@ pub record ListMade (t : List ℤ) (w : Window) (before after : List ℕ) (r : W
   pub answer : toldWritten r ≡ tell (makeRefusal t w (length before)) (wrote (length (zoneList t w)))
   pub buffer : after ≡ leave (makeRefusal t w (length before)) (zoneList t w) before
 
--- a point in a list: table, 9, 11, 10
+-- what every call that takes a table and a list refuses first: table, 9, 11
+unfoldable pub acceptRefusal : List ℤ → List ℕ → Option Refusal
+acceptRefusal t list = firstOf (tableRefusal t ∷ listRefusal list ∷ primitivesRefusal (primitives t) list ∷ [])
+
+-- a point in a list: those, 10
 abbrev pub listPointRefusal : List ℤ → List ℕ → Point → Option Refusal
-listPointRefusal t list p =
-    firstOf (tableRefusal t ∷ listRefusal list ∷ primitivesRefusal (primitives t) list ∷ pointRefusal (listWindow list) p ∷ [])
+listPointRefusal t list p = firstOf (acceptRefusal t list ∷ pointRefusal (listWindow list) p ∷ [])
 
 pub record ListLocated (t : List ℤ) (list : List ℕ) (p : Point) (r : Located) : Type 0 where
   pub answer : toldLocated r ≡ tell (listPointRefusal t list p) (pointTale (insideList (primitives t) list p))
 
--- the search over a list: table, 9, 11, 12, 10
+-- the search over a list: those, 12, 10
 abbrev pub listSearchRefusal : List ℤ → List ℕ → List ℤ → Place → Option Refusal
 listSearchRefusal t list samples place =
-    firstOf
-    (tableRefusal t
-    ∷ listRefusal list
-    ∷ primitivesRefusal (primitives t) list
-    ∷ frameRefusal samples place
-    ∷ leavesRefusal (listWindow list) samples place
-    ∷ [])
+    firstOf (acceptRefusal t list ∷ frameRefusal samples place ∷ leavesRefusal (listWindow list) samples place ∷ [])
 
 pub record ListSearched (t : List ℤ) (list : List ℕ) (samples : List ℤ) (place : Place) (r : Searched) : Type 0 where
   pub answer : toldSearched r

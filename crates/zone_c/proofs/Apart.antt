@@ -23,8 +23,8 @@ use Rattle.rules.specs.Told.{Told, refused, toldChecked, toldLocated, toldSearc
 use Rattle.rules.specs.TreeCalls.{TableChecked, TreeLocated, TreeSearched}
 use Rattle.rules.specs.ListCalls.{ListMade, ListLocated, ListSearched}
 use Rattle.rules.specs.TextCalls.{TextRead, TextWritten}
-use Rattle.laws.specs.Possible.{Possible}
-use Rattle.laws.proofs.Possible as law
+use Rattle.promises.specs.Possible.{Possible}
+use Rattle.promises.proofs.Possible as law
 use Rattle.zone_c.specs.declared.Answer.{Answer}
 use Rattle.zone_c.specs.Answers.{answerOf, Answered, unlessRefused, readChecked, readLocated, readSearched, readWritten, Readable}
 

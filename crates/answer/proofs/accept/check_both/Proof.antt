@@ -1,6 +1,7 @@
 use mathlib.Core.List.{[], _∷_}
 use mathlib.Core.Path.{sym, _∙_}
 use borrow.Author.Needs.{needs}
+use Rattle.rules.specs.ListCalls.{acceptRefusal}
 use Rattle.rules.specs.ListFaults.{listRefusal, primitivesRefusal}
 use Rattle.rules.specs.Table.{primitives}
 use Rattle.rules.specs.Verdict.{tableRefusal}
@@ -25,6 +26,7 @@ check-against-requires c κs =
     table-sound t (went-on (tableRefusal t) (sym (c .enum-told .given .1) ∙ c .before .before .check .ensures))
 
 returns : tie.Need-returns
+unfolding acceptRefusal
 returns c =
     let d = c .before .before .before in
     let s = d .before .before in
@@ -33,6 +35,7 @@ returns c =
     checked-now (tableRefusal t) (listRefusal list ∷ primitivesRefusal (primitives t) list ∷ []) (stopped (tableRefusal t) (sym (c .before .checked .given .1) ∙ d .check .ensures))
 
 returns-2 : tie.Need-returns-2
+unfolding acceptRefusal
 returns-2 c =
     let k = c .before in
     let d = k .before .before in

@@ -1,8 +1,8 @@
 use mathlib.Core.Path.{sym, _∙_}
 use borrow.Author.Needs.{needs}
-use Rattle.ground.specs.Lists.{firstOf}
+use Rattle.rules.specs.ListCalls.{acceptRefusal}
 use Rattle.laws.proofs.Telling.{went-on, stopped}
-use Rattle.answer.proofs.Calls.{rules, accepted, search-refused}
+use Rattle.answer.proofs.Calls.{accepted, search-refused}
 use Rattle.answer.proofs.asking.list_search.Statement.{statement}
 use Rattle.answer.proofs.asking.list_search.Tie as tie
 
@@ -20,7 +20,7 @@ search-by-requires c κs =
     let s = c .before .before .before .before in
     let t = s .args .table .now in
     let list = s .args .list .now in
-    accepted t list (went-on (firstOf (rules t list)) (sym (c .enum-told .given .1) ∙ c .before .before .check-both .ensures))
+    accepted t list (went-on (acceptRefusal t list) (sym (c .enum-told .given .1) ∙ c .before .before .check-both .ensures))
 
 returns : tie.Need-returns
 returns c =
@@ -28,7 +28,7 @@ returns c =
     let s = d .before .before in
     let t = s .args .table .now in
     let list = s .args .list .now in
-    search-refused t list (s .args .samples .now) (s .args .place) (stopped (firstOf (rules t list)) (sym (c .before .checked .given .1) ∙ d .check-both .ensures))
+    search-refused t list (s .args .samples .now) (s .args .place) (stopped (acceptRefusal t list) (sym (c .before .checked .given .1) ∙ d .check-both .ensures))
 
 returns-2 : tie.Need-returns-2
 returns-2 c = search needs

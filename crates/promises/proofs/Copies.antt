@@ -24,11 +24,11 @@ use Rattle.rules.specs.Told.{fine, wrote, tell}
 use Rattle.rules.specs.Tree.{treeOf}
 use Rattle.rules.specs.Verdict.{tableRefusal}
 use Rattle.rules.proofs.Told.{written-once}
-use Rattle.laws.specs.Promises.{Made, prunedAfterwards, needed, Listable}
-use Rattle.laws.proofs.ListAsTree.{accepted, table-fine, window-fine, few-choices}
-use Rattle.laws.proofs.Buffers.{is-over}
+use Rattle.promises.specs.Promises.{Made, prunedAfterwards, needed, Listable}
+use Rattle.promises.proofs.ListAsTree.{accepted, table-fine, window-fine, few-choices}
+use Rattle.laws.proofs.ZoneProducts.{is-over}
 use Rattle.laws.proofs.Soundness.{unless-kept}
 use Rattle.laws.proofs.Words.{list-length}
 
 module _ (t : List ℤ) (w : Window) where
   pub list-needs : length (zoneList t w) ≡ needed t w
@@ -69,7 +69,7 @@ module _ {t : List ℤ} {w : Window} {before after : List ℕ} {n : ℕ} (made :
   pub made-words : take n after ≡ zoneList t w
   made-words =
       let beyond = drop (length (zoneList t w)) before in
-      ap (take n) (is-over t w before after (Wrote n) made not-refused) ∙ take-at (zoneList t w) beyond n (sym made-length)
+      ap (take n) (is-over made not-refused) ∙ take-at (zoneList t w) beyond n (sym made-length)
 
 -- the call that made a list wrote its words
 made-by : {t : List ℤ} {w : Window} {list : List ℕ} (m : Made t w list) → ListMade t w (m .before) (m .after) (Wrote (m .words))

@@ -1,19 +1,16 @@
 -- The three promises hold: each sentence cites the theorem that keeps it. Assumes nothing.
 use Prim.Native.Nat.{ℕ}
 use native.Mathlib.Omega.{arith}
-use mathlib.Core.Bool.{true}
 use mathlib.Core.List.{List}
-use mathlib.Core.Option.{Option, none}
+use mathlib.Core.Option.{Option}
 use mathlib.Core.Path.{_≡_, ap, subst, _∙_}
 use lib.IntN.{ℤ}
 use lib.ListN.{length}
-use Rattle.rules.specs.declared.Located.{Located}
-use Rattle.rules.specs.declared.Point.{Point}
 use Rattle.rules.specs.declared.Refusal.{Refusal}
 use Rattle.rules.specs.declared.Window.{Window}
 use Rattle.rules.specs.declared.Written.{Written}
 use Rattle.rules.specs.declared.Written.the-variants.{Wrote}
-use Rattle.rules.specs.Boxes.{Box, holds, everywhere}
+use Rattle.rules.specs.Boxes.{Box}
 use Rattle.rules.specs.Frame.{firstInside, insideCount}
 use Rattle.rules.specs.Inside.{inside}
 use Rattle.rules.specs.ListCalls.{zoneList, makeRefusal, ListMade, listPointRefusal, listSearchRefusal}
@@ -23,20 +20,19 @@ use Rattle.rules.specs.Table.{primitives}
 use Rattle.rules.specs.TextCalls.{tableRead, readRefusal, tableText, writeRefusal}
 use Rattle.rules.specs.Told.{fine, wrote, tell, toldWritten}
 use Rattle.rules.specs.Tree.{treeOf}
-use Rattle.rules.specs.TreeCalls.{treePointRefusal, TreeLocated, treeSearchRefusal}
-use Rattle.rules.specs.Verdict.{tableRefusal}
+use Rattle.rules.specs.TreeCalls.{treePointRefusal, treeSearchRefusal}
 use Rattle.rules.proofs.Settled.{tree-located-settled, tree-searched-settled, list-located-settled, list-searched-settled, list-made-settled}
 use Rattle.rules.proofs.Settled.{text-read-settled, text-written-settled, list-made-keeps, text-read-keeps, text-written-keeps}
 use Rattle.rules.proofs.Told.{written-once}
-use Rattle.laws.specs.Promises.{Promise1, InTree, InList, Made, Faithful, Promise2, needed, Listable, Promise3}
-use Rattle.laws.proofs.ListAsTree.{sampleHeld, window-in-range, made-passes, list-locates, list-answers-tree, list-refuses-outside, searches-agree}
-use Rattle.laws.proofs.Copies.{list-needs, listable-fine, not-refused, made-listable, made-fits, made-length, made-words, made-here}
-use Rattle.laws.proofs.Outcomes.{check-answers, point-answers, search-answers, writes, read-answer}
-use Rattle.laws.proofs.Buffers.{list-right, list-rest, list-room}
-use Rattle.laws.proofs.Searches.{search-finds}
-use Rattle.laws.proofs.Sets.{says-itself, tests-are-sets, tree-answers-sets}
-use Rattle.laws.proofs.Strangers.{stranger-refused}
-use Rattle.laws.proofs.Texts.{writes-text, table-text-table, reads-text, text-table-text}
+use Rattle.promises.specs.Promises.{Promise1, InTree, InList, Made, Faithful, Promise2, Listable, Promise3}
+use Rattle.promises.proofs.ListAsTree.{sampleHeld, window-in-range, made-passes, list-locates, list-answers-tree, list-refuses-outside, searches-agree}
+use Rattle.promises.proofs.Copies.{list-needs, listable-fine, not-refused, made-listable, made-fits, made-length, made-words, made-here}
+use Rattle.promises.proofs.Outcomes.{check-answers, point-answers, search-answers, writes, read-answer}
+use Rattle.promises.proofs.Buffers.{list-right, list-rest, list-room}
+use Rattle.promises.proofs.Searches.{search-finds}
+use Rattle.promises.proofs.Sets.{says-itself, tests-are-sets, tree-answers-sets}
+use Rattle.promises.proofs.Strangers.{stranger-refused}
+use Rattle.promises.proofs.RoundTrips.{writes-text, table-text-table, reads-text, text-table-text}
 
 -- ---- Promise 1: each call by its settled-lemma; a call that writes by its keeps-lemma too
 
@@ -76,9 +72,9 @@ faithful {t} {w} {list} m = record {
   frame-as-tree = searches-agree t w list list n here;
   refuses-frame = λ samples place frame k l out earlier by-list.
       let passes = made-passes t w list list n here in
-      stranger-refused t list samples place by-list (listable .sound) (passes .0) (passes .1) frame k l
-      (ap (λ (b : Box). sampleHeld b samples place k) (passes .2) ∙ out)
-      (λ j h. ap (λ (b : Box). sampleHeld b samples place j) (passes .2) ∙ earlier j h);
+      stranger-refused t list samples place by-list (passes .0) frame k l
+      (ap (λ (b : Box). sampleHeld b samples place k) (passes .1) ∙ out)
+      (λ j h. ap (λ (b : Box). sampleHeld b samples place j) (passes .1) ∙ earlier j h);
 }
   where
     n : ℕ

@@ -31,17 +31,17 @@ use Rattle.rules.specs.Ranges.{within, columns}
 use Rattle.rules.specs.Refusals.{refuseIf, refuseUnless}
 use Rattle.rules.specs.Table.{primitives, rowCount}
 use Rattle.rules.specs.Tree.{Tree, solid, union, inter, diff, treeOf}
-use Rattle.laws.specs.EachOnce.{nothing, choice, EachOnce}
-use Rattle.laws.specs.Plans.{Plan, with-it, without, either, both, plan, ways, count, kth, mask, Apart}
+use Rattle.promises.specs.EachOnce.{choice, EachOnce}
+use Rattle.laws.specs.Plans.{Plan, with-it, without, either, both, plan, nothing, ways, count, kth, mask, Apart}
 use Rattle.laws.specs.Reach.{reachIn, aliveIn}
 use Rattle.laws.specs.Sound.{Sound}
 use Rattle.laws.proofs.Apart.{mask-in-table, table-apart, few-primitives}
-use Rattle.laws.proofs.EachOnce.{each-once}
+use Rattle.promises.proofs.EachOnce.{each-once}
 use Rattle.laws.proofs.Survivors.{survivors-length}
-use Rattle.laws.proofs.Buffers.{plain-in-table, products-are-survivors}
+use Rattle.laws.proofs.ZoneProducts.{plain-in-table, products-are-survivors}
 use Rattle.laws.proofs.Reach.{places-where}
 use Rattle.laws.proofs.Ways.{choices-ways, ways-count, ways-kth, kth-within, by-part, place-left, place-right}
 use Rattle.laws.proofs.Windows.{Bounds, window-right, window-filled}
 
 -- ---- a bound as a header has it: the three axes have one range and one offset
 

@@ -30,7 +30,7 @@ use Rattle.rules.specs.Boxes.{Box, holds, everywhere, windowBox}
 use Rattle.rules.specs.Choices.{expansion}
 use Rattle.rules.specs.Frame.{codeAt, pointOf, frameRefusal, leavesRefusal, sampleInside, firstInside, insideCount}
 use Rattle.rules.specs.Inside.{inside}
-use Rattle.rules.specs.ListCalls.{mostChoices, windowRefusal, choicesRefusal, zoneList, makeRefusal, ListMade, listPointRefusal, ListLocated, listSearchRefusal, ListSearched}
+use Rattle.rules.specs.ListCalls.{mostChoices, windowRefusal, choicesRefusal, zoneList, makeRefusal, ListMade, acceptRefusal, listPointRefusal, ListLocated, listSearchRefusal, ListSearched}
 use Rattle.rules.specs.ListFaults.{listRefusal, primitivesRefusal}
 use Rattle.rules.specs.ListInside.{insideProduct, insideList}
 use Rattle.rules.specs.ListWords.{listWindow}
@@ -43,25 +43,18 @@ use Rattle.rules.specs.TreeCalls.{axisRefusal, pointRefusal, pointTale, searchT
 use Rattle.rules.specs.Verdict.{tableRefusal}
 use Rattle.rules.proofs.Settled.{tree-located-settled}
 use Rattle.rules.proofs.Told.{searched-once, wrote-none}
 use Rattle.laws.specs.Sound.{Sound}
 use Rattle.laws.proofs.Telling.{holds-point}
-use Rattle.laws.proofs.MadePasses.{made-window, made-accepted, made-sound}
-use Rattle.laws.proofs.Placing.{tree-choices}
-use Rattle.laws.proofs.Buffers.{is-over}
-use Rattle.laws.proofs.Pruning.{held-axes, pruning-keeps, primitives-right}
+use Rattle.promises.proofs.MadePasses.{made-window, made-accepted, made-sound}
+use Rattle.promises.proofs.Placing.{tree-choices}
+use Rattle.laws.proofs.ZoneProducts.{is-over}
+use Rattle.promises.proofs.Pruning.{held-axes, pruning-keeps, primitives-right}
 use Rattle.laws.proofs.Soundness.{unless-kept, table-sound}
 use Rattle.laws.proofs.Spaces.{by-axis}
 use Rattle.laws.proofs.Windows.{Bounds, window-right}
 use Rattle.laws.proofs.Words.{zone-products}
 
 -- ---- rules in order
-
--- the checks that every answer from a list makes first
-pub checks-pass : (t : List ℤ) (list : List ℕ) → tableRefusal t ≡ none → listRefusal list ≡ none → primitivesRefusal (primitives t) list ≡ none
-    → (others : List (Option Refusal))
-    → firstOf (tableRefusal t ∷ listRefusal list ∷ primitivesRefusal (primitives t) list ∷ others) ≡ firstOf others
-unfolding firstOf
-checks-pass t list e f g others = λ i. orElse (e i) (orElse (f i) (orElse (g i) (firstOf others)))
 
 -- a point that is out of a box is out on a first axis
 point-out : (b : Box) (p : Point) → holds b p ≡ false → (axis : ℕ) × (pointRefusal b p ≡ refuse 10 axis)
@@ -162,15 +155,15 @@ module _ (t : List ℤ) (w : Window) (before after : List ℕ) (n : ℕ) (made :
   beyond = drop (length (zoneList t w)) before
 
   is-list : after ≡ zoneList t w ++ beyond
-  is-list = is-over t w before after (written.Wrote n) made accepted
+  is-list = is-over made accepted
 
-  -- it passes the checks, with its table too, and carries its window
-  pub made-passes : (listRefusal after ≡ none) × (primitivesRefusal (primitives t) after ≡ none) × (listWindow after ≡ windowBox w)
-  made-passes = (
-    ap listRefusal is-list ∙ made-sound t w sound window-fine beyond few-choices,
-    ap (primitivesRefusal (primitives t)) is-list ∙ made-accepted t w beyond,
-    ap listWindow is-list ∙ made-window t w window-fine beyond,
-  )
+  -- it is accepted with its table, and carries its window
+  pub made-passes : (acceptRefusal t after ≡ none) × (listWindow after ≡ windowBox w)
+  unfolding acceptRefusal firstOf
+  made-passes =
+      let list = ap listRefusal is-list ∙ made-sound t w sound window-fine beyond few-choices in
+      let counts = ap (primitivesRefusal (primitives t)) is-list ∙ made-accepted t w beyond in
+      ((λ i. orElse (table-fine i) (orElse (list i) (orElse (counts i) none))), ap listWindow is-list ∙ made-window t w window-fine beyond)
 
   -- at every point of the window it says what the tree says
   pub list-is-tree : (p : Point) → holds (windowBox w) p ≡ true → insideList (primitives t) after p ≡ inside (treeOf t) p
@@ -186,9 +179,9 @@ module _ (t : List ℤ) (w : Window) (before after : List ℕ) (n : ℕ) (made :
   point-rule : (p : Point) → listPointRefusal t after p ≡ pointRefusal (windowBox w) p
   unfolding firstOf
   point-rule p =
-      checks-pass t after table-fine (made-passes .0) (made-passes .1) (pointRefusal (listWindow after) p ∷ [])
+      (λ i. orElse (made-passes .0 i) (orElse (pointRefusal (listWindow after) p) none))
       ∙ sym (or-else-none (pointRefusal (listWindow after) p))
-      ∙ ap (λ (b : Box). pointRefusal b p) (made-passes .2)
+      ∙ ap (λ (b : Box). pointRefusal b p) (made-passes .1)
 
   tree-point-rule : (p : Point) → holds (windowBox w) p ≡ true → treePointRefusal t p ≡ none
   unfolding firstOf
@@ -223,7 +216,7 @@ module _ (t : List ℤ) (w : Window) (before after : List ℕ) (n : ℕ) (made :
     none-leaves : leavesRefusal (listWindow after) samples place ≡ none
     none-leaves =
         let n = length samples in
-        ap (λ (b : Box). leavesRefusal b samples place) (made-passes .2)
+        ap (λ (b : Box). leavesRefusal b samples place) (made-passes .1)
         ∙ held-upto (windowBox w) samples place n (le-refl n) held
         ∙ all-kept (sampleRule (windowBox w) samples place) n n (le-refl n)
 
@@ -231,8 +224,7 @@ module _ (t : List ℤ) (w : Window) (before after : List ℕ) (n : ℕ) (made :
     unfolding firstOf
     same-rule =
         let frame = frameRefusal samples place in
-        checks-pass t after table-fine (made-passes .0) (made-passes .1) (frame ∷ leavesRefusal (listWindow after) samples place ∷ [])
-        ∙ (λ i. orElse (sym table-fine i) (orElse frame (orElse (none-leaves i) none)))
+        λ i. orElse ((made-passes .0 ∙ sym table-fine) i) (orElse frame (orElse (none-leaves i) none))
 
     pub searches-agree : {a b : Searched} → ListSearched t after samples place a → TreeSearched t samples place b → a ≡ b
     searches-agree {a} {b} by-list by-tree =

@@ -19,10 +19,10 @@ use Rattle.rules.specs.Tree.{nowhere, rowTree, treeAt, treeOf}
 use Rattle.rules.specs.Inside.{inside}
 use Rattle.rules.specs.Choices.{choices, inOf}
 use Rattle.rules.specs.ListInside.{insideProduct}
 use Rattle.laws.specs.Sound.{RowRight, Sound}
 use Rattle.laws.proofs.Trees.{tree-row}
 use Rattle.laws.proofs.Apart.{next-row, number-below}
-use Rattle.laws.proofs.Agreement.{Placed, choices-inside}
+use Rattle.promises.proofs.Agreement.{Placed, choices-inside}
 
 module _ (t : List ℤ) where
   next-primitives : (row : ℕ) → primitivesBefore t (suc row) ≡ primitivesBefore t row ++ solidOf (rowAt t row)

@@ -9,15 +9,15 @@ use mathlib.Core.Path.{_≡_, refl, sym, ap, ap₂, _∙_}
 use borrow.Author.Tests.{not-true}
 use lib.ListN.{length, getD, take, length-map}
 use lib.Seq.{take-length}
-use Rattle.ground.specs.Tests.{if_then_else_}
 use Rattle.ground.specs.Lists.{from, below, anyOf, keepIf}
+use Rattle.ground.specs.Tests.{if_then_else_}
 use Rattle.ground.proofs.Branches.{false-true, and-left, and-right}
 use Rattle.ground.proofs.Counting.{below-last}
 use Rattle.ground.proofs.Lists.{map-at}
 use Rattle.rules.specs.declared.Product.{Product}
 use Rattle.laws.specs.Survivors.{pruned, survivors}
 use Rattle.laws.proofs.Kept.{kept-append, keptAt, kept-passes, kept-rising, passes-kept}
 use Rattle.laws.proofs.Survivors.{comes, new, survivors-step, came-at, at-came, survivors-none}
 
 -- the choice behind each product of a list: in the same order, and the first of those that stay and come to that product
 pub record Origins (alive : ℕ → Bool) (reach : ℕ → ℕ) (cs : List Product) (d : Product) : Type 0 where

@@ -2,7 +2,7 @@
 use Prim.Native.Nat.{ℕ, _<_}
 use native.Mathlib.Omega.{arith}
 use mathlib.Core.Bool.{Bool, true, false}
-use mathlib.Core.List.{List, [], _∷_}
+use mathlib.Core.List.{List, []}
 use mathlib.Core.Option.{Option, none, some}
 use mathlib.Core.Path.{_≡_, refl, sym, ap, _∙_}
 use lib.IntN.{ℤ}
@@ -14,17 +14,15 @@ use Rattle.rules.specs.declared.Place.{Place}
 use Rattle.rules.specs.declared.Refusal.{Refusal}
 use Rattle.rules.specs.declared.Searched.{Searched}
 use Rattle.rules.specs.Frame.{frameRefusal, leavesRefusal, firstInside, insideCount}
-use Rattle.rules.specs.ListCalls.{listSearchRefusal, ListSearched}
-use Rattle.rules.specs.ListFaults.{listRefusal, primitivesRefusal}
+use Rattle.rules.specs.ListCalls.{acceptRefusal, listSearchRefusal, ListSearched}
 use Rattle.rules.specs.ListInside.{insideList}
 use Rattle.rules.specs.ListWords.{listWindow}
 use Rattle.rules.specs.Refusals.{refuse, refuseUnless}
 use Rattle.rules.specs.Table.{primitives}
 use Rattle.rules.specs.Told.{refused, tell, toldSearched}
 use Rattle.rules.specs.TreeCalls.{searchTale}
-use Rattle.rules.specs.Verdict.{tableRefusal}
-use Rattle.laws.proofs.ListAsTree.{checks-pass, sampleHeld, sampleRule, held-upto}
+use Rattle.promises.proofs.ListAsTree.{sampleHeld, sampleRule, held-upto}
 use Rattle.laws.proofs.Soundness.{unless-kept}
 
 -- whoever meets the record of the search over a list
 module _ (t : List ℤ) (list : List ℕ) (samples : List ℤ) (place : Place) {r : Searched} (met : ListSearched t list samples place r) where
@@ -36,13 +34,12 @@ module _ (t : List ℤ) (list : List ℕ) (samples : List ℤ) (place : Place) {
 
   -- For every list that passes the checks, whoever made it: a frame with a sample outside the list's window is refused with the first such
   -- sample, so one window's list can never call a neighbour's frame a hit.
-  pub stranger-refused : tableRefusal t ≡ none → listRefusal list ≡ none → primitivesRefusal (primitives t) list ≡ none
-      → frameRefusal samples place ≡ none
+  pub stranger-refused : acceptRefusal t list ≡ none → frameRefusal samples place ≡ none
       → (k : ℕ) → k < length samples → sampleHeld (listWindow list) samples place k ≡ false
       → ((j : ℕ) → j < k → sampleHeld (listWindow list) samples place j ≡ true)
       → toldSearched r ≡ refused (record { number = 10; value = k })
   unfolding firstOf
-  stranger-refused table right fitting frame k l out earlier = by-rule (record { number = 10; value = k }) first
+  stranger-refused accepted frame k l out earlier = by-rule (record { number = 10; value = k }) first
     where
       leaves : leavesRefusal (listWindow list) samples place ≡ refuse 10 k
       leaves =
@@ -50,9 +47,7 @@ module _ (t : List ℤ) (list : List ℕ) (samples : List ℤ) (place : Place) {
           ∙ broken (sampleRule (listWindow list) samples place) k (length samples) l (ap (λ (b : Bool). refuseUnless b 10 k) out)
 
       first : listSearchRefusal t list samples place ≡ refuse 10 k
-      first =
-          checks-pass t list table right fitting (frameRefusal samples place ∷ leavesRefusal (listWindow list) samples place ∷ [])
-          ∙ (λ i. orElse (frame i) (orElse (leaves i) none))
+      first = λ i. orElse (accepted i) (orElse (frame i) (orElse (leaves i) none))
 
   -- And whether or not table, list and frame pass their checks: with some sample outside the list's window the answer is a refusal.
   pub never-a-hit : (k : ℕ) → k < length samples → sampleHeld (listWindow list) samples place k ≡ false → (q : Refusal) × (toldSearched r ≡ refused q)
@@ -60,8 +55,7 @@ module _ (t : List ℤ) (list : List ℕ) (samples : List ℤ) (place : Place) {
     where
       kept-no : listSearchRefusal t list samples place ≡ none → false ≡ true
       kept-no e =
-          let after-list = first-kept (listRefusal list) _ (first-kept (tableRefusal t) _ e .1) .1 in
-          let after-frame = first-kept (frameRefusal samples place) _ (first-kept (primitivesRefusal (primitives t) list) _ after-list .1) .1 in
+          let after-frame = first-kept (frameRefusal samples place) _ (first-kept (acceptRefusal t list) _ e .1) .1 in
           let leaves = first-kept (leavesRefusal (listWindow list) samples place) [] after-frame .0 in
           let kept = rulings-none (sampleRule (listWindow list) samples place) (length samples) leaves k l in
           sym out ∙ unless-kept (sampleHeld (listWindow list) samples place k) 10 k kept

@@ -17,8 +17,8 @@ use Rattle.rules.specs.declared.Searched.{Searched}
 use Rattle.rules.specs.Frame.{codeAt, pointOf, sampleInside, firstInside, insideCount}
 use Rattle.rules.specs.Told.{tell, toldSearched}
 use Rattle.rules.specs.TreeCalls.{searchTale}
-use Rattle.laws.specs.Promises.{SampleIn, Counted, Found, Search}
-use Rattle.laws.proofs.Outcomes.{hit-told, clear-told, search-told}
+use Rattle.promises.specs.Promises.{SampleIn, Counted, Found, Search}
+use Rattle.promises.proofs.Outcomes.{hit-told, clear-told, search-told}
 
 -- a test, and what it says of each position
 module _ (test : ℕ → Bool) (Inside : ℕ → Type 0) (says : (k : ℕ) → Says (test k) (Inside k)) where

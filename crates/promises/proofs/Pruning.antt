@@ -28,12 +28,12 @@ use Rattle.rules.specs.Products.{boxOf, productBox, stays, trimmed, same, first
 use Rattle.rules.specs.Ranges.{Span, within}
 use Rattle.rules.specs.Table.{rowCount, rowAt, solidOf, primitives}
 use Rattle.rules.specs.Tree.{Tree}
 use Rattle.laws.specs.Sound.{solidRight, RowRight, Sound}
-use Rattle.laws.proofs.Agreement.{box-holds}
+use Rattle.promises.proofs.Agreement.{box-holds}
 use Rattle.laws.proofs.Firsts.{same-equal}
 use Rattle.laws.proofs.Kept.{any-made}
 use Rattle.laws.proofs.Reach.{digit-odd, digit-half}
 use Rattle.laws.proofs.Spaces.{implied-left, greater-most, lesser-least, filled, by-axis, filled-axes, and-swap, axes-swap, cut}
 
 -- ---- a point in boxes
 

@@ -12,11 +12,9 @@ use Rattle.rules.specs.ListWords.{placeOf, productAt, productCount}
 use Rattle.rules.specs.Products.{stays, trimmed, products}
 use Rattle.rules.specs.Table.{primitives}
 use Rattle.rules.specs.Tree.{treeOf}
+use Rattle.laws.specs.Plans.{nothing}
 
--- what is read past the last choice; each choice below is one of the `expansion (treeOf t)` that there are
-abbrev pub nothing : Product
-nothing = record { plain = 0; cuts = 0 }
-
+-- choice i, one of the `expansion (treeOf t)` that there are
 abbrev pub choice : List ℤ → ℕ → Product
 choice t i = getD (choices inOf (treeOf t)) i nothing
 

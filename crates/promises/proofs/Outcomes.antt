@@ -23,7 +23,7 @@ use Rattle.rules.specs.TreeCalls.{pointTale, searchTale, TableChecked}
 use Rattle.rules.specs.Verdict.{tableRefusal}
 use Rattle.rules.proofs.Settled.{checked-settled, form-once}
 use Rattle.rules.proofs.Told.{checked-once, written-once}
-use Rattle.laws.specs.Promises.{OnlyAnswers, Writes}
+use Rattle.promises.specs.Promises.{OnlyAnswers, Writes}
 
 tale-of : {a b : Told} → a ≡ b → a .tale ≡ b .tale
 tale-of e = ap (λ (told : Told). told .tale) e

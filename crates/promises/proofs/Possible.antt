@@ -26,7 +26,7 @@ use Rattle.rules.specs.declared.Written.{Written}
 use Rattle.rules.specs.Boxes.{Box, holds}
 use Rattle.rules.specs.Frame.{codeAt, pointOf, frameRefusal, leavesRefusal, sampleInside, firstInside, insideCount}
 use Rattle.rules.specs.Inside.{inside}
-use Rattle.rules.specs.ListCalls.{windowRefusal, makeRefusal, ListMade, listPointRefusal, ListLocated, listSearchRefusal, ListSearched}
+use Rattle.rules.specs.ListCalls.{windowRefusal, makeRefusal, ListMade, acceptRefusal, listPointRefusal, ListLocated, listSearchRefusal, ListSearched}
 use Rattle.rules.specs.ListFaults.{headerRefusals, productRefusals, listRefusal}
 use Rattle.rules.specs.ListInside.{insideList}
 use Rattle.rules.specs.ListWords.{productCount}
@@ -38,7 +38,7 @@ use Rattle.rules.specs.Told.{Tale, Told, sound, fine, tell, toldChecked, toldLo
 use Rattle.rules.specs.Tree.{treeOf}
 use Rattle.rules.specs.TreeCalls.{pointRefusal, pointTale, searchTale, TableChecked, treePointRefusal, TreeLocated, treeSearchRefusal, TreeSearched}
 use Rattle.rules.specs.Verdict.{rowRefusalBy, rowRefusal, rowsRefusal, childOnce, childRefusal, tableRefusal}
-use Rattle.laws.specs.Possible.{lastRefusal, InTable, Possible}
+use Rattle.promises.specs.Possible.{lastRefusal, InTable, Possible}
 
 -- ---- a rule refuses nothing, or by a number of the table
 
@@ -112,6 +112,10 @@ list-tabled list =
     let products = all-flatMap (λ k. Unit {0}) Tabled (productRefusals list) (λ k u. search tabled) numbers (all-each (λ k. Unit {0}) (λ k. tt) numbers) in
     first-tabled _ (search tabled, all-append Tabled (headerRefusals list) (flatMap (productRefusals list) numbers) header products)
 
+accept-tabled : (t : List ℤ) (list : List ℕ) → Tabled (acceptRefusal t list)
+unfolding acceptRefusal
+accept-tabled t list = search (tabled, table-tabled, list-tabled)
+
 window-tabled : (w : Window) → Tabled (windowRefusal w)
 window-tabled w = search tabled depth 8
 
@@ -120,7 +124,7 @@ form-tabled (too-long over) = search tabled
 form-tabled (faulty line short fault) = search tabled
 form-tabled (spelt rows short some-row not-over right is) = none-tabled
 
-ruleset calls = (tabled, table-tabled, point-tabled, frame-tabled, leaves-tabled, list-tabled, window-tabled, form-tabled)
+ruleset calls = (tabled, table-tabled, point-tabled, frame-tabled, leaves-tabled, accept-tabled, window-tabled, form-tabled)
 
 -- ---- what is told by such a rule, or else by a tale that is possible where nothing is refused
 

@@ -33,8 +33,8 @@ use Rattle.rules.specs.Told.{Told, inside, outside, clear, hit, wrote, fine, re
 use Rattle.rules.specs.Tree.{treeOf}
 use Rattle.rules.specs.TreeCalls.{pointRefusal, TableChecked, treePointRefusal, TreeLocated, treeSearchRefusal, TreeSearched}
 use Rattle.rules.specs.Verdict.{tableRefusal}
-use Rattle.laws.specs.EachOnce.{EachOnce}
-use Rattle.laws.specs.Sets.{InSet}
+use Rattle.promises.specs.EachOnce.{EachOnce}
+use Rattle.promises.specs.Sets.{InSet}
 
 -- ==== Promise 1
 -- Every public call takes all inputs, ends, and reads nothing outside what it is lent. Malformed trees, windows, lists, texts and frames get the

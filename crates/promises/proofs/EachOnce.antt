@@ -19,12 +19,13 @@ use Rattle.rules.specs.ListWords.{listOf, productCount, productAt}
 use Rattle.rules.specs.Products.{products}
 use Rattle.rules.specs.Table.{primitives}
 use Rattle.rules.specs.Tree.{treeOf}
-use Rattle.laws.specs.EachOnce.{nothing, choice, kept, made, FirstChoices, EachOnce}
+use Rattle.promises.specs.EachOnce.{choice, kept, made, FirstChoices, EachOnce}
+use Rattle.laws.specs.Plans.{nothing}
 use Rattle.laws.specs.Survivors.{pruned, survivors}
 use Rattle.laws.specs.Reach.{reachIn, aliveIn}
-use Rattle.laws.proofs.Origins.{Origins, survivors-order, survivors-has, survivors-distinct}
+use Rattle.promises.proofs.Origins.{Origins, survivors-order, survivors-has, survivors-distinct}
 use Rattle.laws.proofs.Reach.{alive-exact, trimmed-pruned, products-survivors}
 use Rattle.laws.proofs.Words.{list-length, list-count, list-product}
 
 -- for a window that is not empty, and choices of the table's primitives only; whatever stands after the list
 module _ (t : List ℤ) (w : Window) (filled : empty (windowBox w) ≡ false)

@@ -15,9 +15,9 @@ use Rattle.rules.specs.Tree.{Tree, solid, union, inter, diff, treeOf}
 use Rattle.rules.specs.Inside.{insideSolid, inside}
 use Rattle.rules.specs.Told.{fine, toldLocated}
 use Rattle.rules.specs.TreeCalls.{pointRefusal, pointTale, TreeLocated}
-use Rattle.laws.specs.Promises.{BySet}
-use Rattle.laws.specs.Sets.{InSet}
+use Rattle.promises.specs.Promises.{BySet}
+use Rattle.promises.specs.Sets.{InSet}
 use Rattle.laws.proofs.Telling.{told-later, told-fine, holds-point}
 
 says-or : (a b : Bool) (X Y : Type 0) → Says a X → Says b Y → Says (a || b) (X ⊎ Y)
 says-or true b X Y x y = inl x

@@ -1,0 +1,16 @@
+pub mod Sets
+pub mod Agreement
+pub mod Placing
+pub mod Pruning
+pub mod Origins
+pub mod EachOnce
+pub mod Buffers
+pub mod MadePasses
+pub mod ListAsTree
+pub mod Strangers
+pub mod Outcomes
+pub mod Searches
+pub mod Copies
+pub mod RoundTrips
+pub mod Possible
+pub mod Promises

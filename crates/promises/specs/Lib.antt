@@ -1,0 +1,4 @@
+pub mod Sets
+pub mod EachOnce
+pub mod Possible
+pub mod Promises
