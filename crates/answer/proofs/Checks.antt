@@ -22,7 +22,7 @@ use Rattle.rules.specs.ListWords.{headerWords, productCount, primitiveCount, pl
 use Rattle.rules.specs.Refusals.{refuseIf, refuseUnless}
 use Rattle.laws.specs.Checking.{checkedBy}
 use Rattle.laws.proofs.SoundLists.{first-append}
-use Rattle.answer.specs.Checks.{earlier, boundsBy}
+use Rattle.answer.specs.Checks.{firstRefused, boundsBy}
 
 -- ---- tests
 
@@ -61,14 +61,14 @@ either-fails a b number value = ap (λ (t : Bool). refuseIf t number value) (not
 
 -- ---- checks one after the other
 
-earlier-by : (x y : Option Refusal) → earlier (checkedBy x) (checkedBy y) ≡ checkedBy (orElse x y)
+earlier-by : (x y : Option Refusal) → firstRefused (checkedBy x) (checkedBy y) ≡ checkedBy (orElse x y)
 earlier-by none y = refl
 earlier-by (some r) y = refl
 
 -- two checks by their rules
-pub in-turn : (xs ys : List (Option Refusal)) {a b r : Checked} → a ≡ checkedBy (firstOf xs) → b ≡ checkedBy (firstOf ys) → r ≡ earlier a b
+pub in-turn : (xs ys : List (Option Refusal)) {a b r : Checked} → a ≡ checkedBy (firstOf xs) → b ≡ checkedBy (firstOf ys) → r ≡ firstRefused a b
     → r ≡ checkedBy (firstOf (xs ++ ys))
-in-turn xs ys ha hb h = h ∙ ap₂ earlier ha hb ∙ earlier-by (firstOf xs) (firstOf ys) ∙ ap checkedBy (sym (first-append xs ys))
+in-turn xs ys ha hb h = h ∙ ap₂ firstRefused ha hb ∙ earlier-by (firstOf xs) (firstOf ys) ∙ ap checkedBy (sym (first-append xs ys))
 
 -- a check by one rule
 pub alone : (x : Option Refusal) {a : Checked} → a ≡ checkedBy x → a ≡ checkedBy (firstOf (x ∷ []))
@@ -76,7 +76,7 @@ unfolding firstOf
 alone x h = h ∙ ap checkedBy (or-else-none x)
 
 -- and two such
-pub one-two : (x y : Option Refusal) {a b r : Checked} → a ≡ checkedBy x → b ≡ checkedBy y → r ≡ earlier a b → r ≡ checkedBy (firstOf (x ∷ y ∷ []))
+pub one-two : (x y : Option Refusal) {a b r : Checked} → a ≡ checkedBy x → b ≡ checkedBy y → r ≡ firstRefused a b → r ≡ checkedBy (firstOf (x ∷ y ∷ []))
 one-two x y ha hb h = in-turn (x ∷ []) (y ∷ []) (alone x ha) (alone y hb) h
 
 -- ---- the header
@@ -98,10 +98,10 @@ module _ (list : List ℕ) where
 
   -- words 0 to 7 in turn
   pub header-by : {frames primitives late codes later columns latest count all : Checked}
-      → frames ≡ checkedBy (firstOf (boundsBy list 5 65535)) → primitives ≡ checkedBy (refuseUnless (primitivesRight list) 9 7) → late ≡ earlier frames primitives
-      → codes ≡ checkedBy (firstOf (boundsBy list 3 65535)) → later ≡ earlier codes late
-      → columns ≡ checkedBy (firstOf (boundsBy list 1 65535)) → latest ≡ earlier columns later
-      → count ≡ checkedBy (refuseUnless (countRight list) 9 0) → all ≡ earlier count latest
+      → frames ≡ checkedBy (firstOf (boundsBy list 5 65535)) → primitives ≡ checkedBy (refuseUnless (primitivesRight list) 9 7) → late ≡ firstRefused frames primitives
+      → codes ≡ checkedBy (firstOf (boundsBy list 3 65535)) → later ≡ firstRefused codes late
+      → columns ≡ checkedBy (firstOf (boundsBy list 1 65535)) → latest ≡ firstRefused columns later
+      → count ≡ checkedBy (refuseUnless (countRight list) 9 0) → all ≡ firstRefused count latest
       → all ≡ checkedBy (firstOf (headerRefusals list))
   header-by frames primitives late codes later columns latest count all =
       in-turn (counts ∷ []) (x ++ (y ++ (z ++ (last ∷ [])))) (alone counts count)
@@ -153,7 +153,7 @@ fits-by n all set e = more-than all set ∙ ap not (sym (leb·suc-suc set all) �
 pub product-by : (list : List ℕ) (k all : ℕ) → suc all ≡ 2 ^ primitiveCount list → {c : Product} {plain cuts r : Checked} → c ≡ productAt list k
     → plain ≡ checkedBy (refuseIf (eqb (c .plain) 0 || ltb all (c .plain)) 9 (placeOf k))
     → cuts ≡ checkedBy (refuseIf (ltb all (c .cuts) || not (eqb (bitAnd (c .plain) (c .cuts)) 0)) 9 (placeOf k + 1))
-    → r ≡ earlier plain cuts → r ≡ checkedBy (firstOf (productRefusals list k))
+    → r ≡ firstRefused plain cuts → r ≡ checkedBy (firstOf (productRefusals list k))
 product-by list k all e {c} is plain cuts r =
     one-two (refuseUnless (plainRight n d) 9 (placeOf k)) (refuseUnless (cutsRight n d) 9 (placeOf k + 1)) (plain ∙ ap checkedBy first) (cuts ∙ ap checkedBy second) r
   where

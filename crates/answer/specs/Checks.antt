@@ -19,9 +19,9 @@ use Rattle.rules.specs.Refusals.{refuseIf}
 use Rattle.rules.specs.Table.{primitives}
 use Rattle.rules.specs.Verdict.{tableRefusal}
 
-abbrev pub earlier : Checked → Checked → Checked
-earlier (checked.Refused r) b = checked.Refused r
-earlier checked.Sound b = b
+abbrev pub firstRefused : Checked → Checked → Checked
+firstRefused (checked.Refused r) b = checked.Refused r
+firstRefused checked.Sound b = b
 
 abbrev pub boundsBy : List ℕ → ℕ → ℕ → List (Option Refusal)
 boundsBy list i most =

@@ -14,7 +14,7 @@ ghost use Rattle.rules.specs.ListCalls.{acceptRefusal};
 ghost use Rattle.rules.specs.Refusals.{refuseIf, refuseUnless};
 ghost use Rattle.laws.specs.Checking.{checkedBy};
 ghost use Rattle.laws.specs.Sound.{Sound};
-ghost use Rattle.answer.specs.Checks.{earlier, boundsBy};
+ghost use Rattle.answer.specs.Checks.{firstRefused, boundsBy};
 
 fn refuse_if(broken: bool, number: u64, value: usize) -> Checked
     ensures { λ r. ⌜ r ≡ checkedBy (refuseIf broken number value) ⌝ }
@@ -27,7 +27,7 @@ fn refuse_if(broken: bool, number: u64, value: usize) -> Checked
 
 // The first of two checks that refuses.
 fn first_of(a: Checked, b: Checked) -> Checked
-    ensures { λ r. ⌜ r ≡ earlier a b ⌝ }
+    ensures { λ r. ⌜ r ≡ firstRefused a b ⌝ }
 {
     match a {
         Checked::Refused(refusal) => Checked::Refused(refusal),

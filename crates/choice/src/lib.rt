@@ -273,7 +273,7 @@ pub fn is_fresh(
                 return is_fresh(table, bits, counts, a, sa, k, reach);
             }
             if both_blank(table, bits, counts, a, sa, b, sb, k - n, reach) {
-                return false;
+                return false; // a repeat: an earlier way comes to nothing too
             }
             is_fresh(table, bits, counts, b, sb, k - n, reach)
         }

@@ -1,2 +1,3 @@
 pub mod Tallies
 pub mod Frames
+pub mod Axes

@@ -53,13 +53,20 @@ fn first_out(x: bool, y: bool, z: bool) -> Checked
     Checked::Sound
 }
 
+// A coordinate lies between two ends, or at one of them.
+fn between(lo: i32, v: i32, hi: i32) -> bool
+    ensures { λ r. ⌜ r ≡ within (record { lo = lo; hi = hi }) v ⌝ }
+{
+    (lo <= v) & (v <= hi)
+}
+
 pub fn check_point(w: Window, p: Point) -> Checked
     ensures { λ r. ⌜ r ≡ checkedBy (pointRefusal (windowBox w) p) ⌝ }
 {
     first_out(
-        (w.xlo <= p.x) & (p.x <= w.xhi),
-        (w.ylo <= p.y) & (p.y <= w.yhi),
-        (w.zlo <= p.z) & (p.z <= w.zhi),
+        between(w.xlo, p.x, w.xhi),
+        between(w.ylo, p.y, w.yhi),
+        between(w.zlo, p.z, w.zhi),
     )
 }
 
@@ -67,8 +74,7 @@ pub fn check_point(w: Window, p: Point) -> Checked
 pub fn in_window(w: Window, p: Point) -> bool
     ensures { λ r. ⌜ r ≡ holds (windowBox w) p ⌝ }
 {
-    ((w.xlo <= p.x) & (p.x <= w.xhi))
-        & (((w.ylo <= p.y) & (p.y <= w.yhi)) & ((w.zlo <= p.z) & (p.z <= w.zhi)))
+    between(w.xlo, p.x, w.xhi) & (between(w.ylo, p.y, w.yhi) & between(w.zlo, p.z, w.zhi))
 }
 
 // Every column from `first` on is in range.

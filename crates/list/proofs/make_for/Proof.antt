@@ -32,7 +32,7 @@ returns c =
 make-of-requires : tie.Need-make-of-requires
 make-of-requires c κs =
     let s = c .before .before .before .before .before .before .before .before .before .before in
-    (s .pre, (c .before .before .before .before .before .before .before .number-rows .ensures .1, (c .before .before .before .before .count-ways .ensures .1, (c .before .before .before .before .count-ways .ensures .0, c .before .before .before .if1 .left))))
+    (s .pre, (c .before .before .before .before .before .before .before .number-rows .ensures .1, (c .before .before .before .before .count-ways .ensures .1, (c .before .before .before .before .count-ways .ensures .0, omega (arith, c .before .before .before .if1 .left)))))
 
 same-length : tie.Need-same-length
 same-length c = search needs

@@ -4,6 +4,7 @@ use mathlib.Core.List.{flatMap}
 use mathlib.Core.Path.{_≡_, sym, ap}
 use Rattle.ground.specs.Lists.{from}
 use Rattle.rules.specs.Listing.{productLine}
+use Rattle.rules.specs.ListWords.{productAt}
 use Rattle.number.specs.Writing.{Put}
 use Rattle.number.proofs.Writing.{put-same, put-none, put-join, put-size}
 use Rattle.print.specs.Lines.{linesTo}
@@ -40,7 +41,8 @@ loop-again : tie.Need-loop-again Inv-loop μ-loop
 loop-again c =
     let s = c .before .before .before .before .before .before .before .before .before .args in
     let l = c .before .before .before .before .before .before .loop in
-    let line = put-same (ap productLine (sym (c .before .before .before .before .product-at .ensures))) (c .before .before .put-pair .ensures) in
+    let product : c .before .before .before .before .product-at .result ≡ productAt (s .list .now) (l .k) = c .before .before .before .before .product-at .ensures in
+    let line = put-same (ap productLine (sym product)) (c .before .before .put-pair .ensures) in
     (omega arith, put-same (lines-next (s .list .now) (l .k)) (put-join (l .inv .1) line))
 
 same-length : tie.Need-same-length Inv-loop μ-loop

@@ -57,7 +57,8 @@ cut c =
     let bit = bitAnd (s .chosen / 2 ^ i) 1 in
     let tested = sym (bit-tested i (s .chosen)) in
     ⊎-elim
-    (λ w. w .2 ∙ rw (tested ∙ eq-eqb bit 1 (w .0 .taken), getD-take (s .primitives) (s .meets .now) i 0 (c .before .loop-test .taken)))
+    (λ w. let met : c .if1 .left ≡ bitAnd (getD (s .meets .now) i 0) (l .loop .left) = w .2 in
+    met ∙ rw (tested ∙ eq-eqb bit 1 (w .0 .taken), getD-take (s .primitives) (s .meets .now) i 0 (c .before .loop-test .taken)))
     (λ w. w .1 ∙ rw (tested ∙ ne-eqb bit 1 (w .0 .left)))
     (c .if1 .came)
 

@@ -5,7 +5,7 @@ use mathlib.Core.List.{List}
 use mathlib.Core.Path.{_≡_, sym, ap, subst, _∙_}
 use lib.IntN.{ℤ}
 use lib.ListN.{length}
-use Rattle.rules.specs.Frame.{sampleInside}
+use Rattle.rules.specs.Frame.{codeAt, pointOf, sampleInside}
 use Rattle.rules.specs.Inside.{inside}
 use Rattle.rules.specs.Tree.{treeOf}
 use Rattle.rules.specs.declared.Place.{Place}
@@ -51,8 +51,9 @@ loop-again c =
     let l = c .before .before .before .before in
     let s = l .before in
     let hits = test (s .args .table .now) (s .args .samples .now) (s .args .place) in
+    let point : c .before .before .point-at .result ≡ pointOf (s .args .place) (l .loop .k) (codeAt (s .args .samples .now) (l .loop .k)) = c .before .before .point-at .ensures .0 in
     let hit : c .before .zone-inside .result ≡ hits (l .loop .k)
-    = c .before .zone-inside .ensures ∙ ap (inside (treeOf (s .args .table .now))) (c .before .before .point-at .ensures .0) ∙ sym (one-code (inside (treeOf (s .args .table .now))) (s .args .samples .now) (s .args .place) (l .loop .k)) in
+    = c .before .zone-inside .ensures ∙ ap (inside (treeOf (s .args .table .now))) point ∙ sym (one-code (inside (treeOf (s .args .table .now))) (s .args .samples .now) (s .args .place) (l .loop .k)) in
     let next : c .counted .result ≡ stepped (l .loop .t) (l .loop .k) (hits (l .loop .k)) = c .counted .ensures ∙ ap (stepped (l .loop .t) (l .loop .k)) hit in
     (omega arith, subst (λ (t : Tally). Running hits (length (s .args .samples .now)) (l .loop .k + 1) t) (sym next) (goes-on hits (c .before .before .before .loop-test .taken) (l .loop .inv .1)))
 

@@ -5,7 +5,7 @@ use mathlib.Core.List.{List}
 use mathlib.Core.Path.{_≡_, sym, ap, subst, _∙_}
 use lib.IntN.{ℤ}
 use lib.ListN.{length}
-use Rattle.rules.specs.Frame.{sampleInside}
+use Rattle.rules.specs.Frame.{codeAt, pointOf, sampleInside}
 use Rattle.rules.specs.ListInside.{insideList}
 use Rattle.rules.specs.Table.{primitives}
 use Rattle.rules.specs.declared.Place.{Place}
@@ -30,7 +30,7 @@ loop-holds : tie.Need-loop-holds Inv-loop μ-loop
 loop-holds c = let s = c .before in (omega arith, begins (test (s .args .table .now) (s .args .list .now) (s .args .samples .now) (s .args .place)) (length (s .args .samples .now)))
 
 point-at-requires : tie.Need-point-at-requires Inv-loop μ-loop
-point-at-requires c κs = (c .loop-test .taken, c .before .before .before .pre .1)
+point-at-requires c κs = (omega arith, c .before .before .before .pre .1)
 
 list-inside-requires : tie.Need-list-inside-requires Inv-loop μ-loop
 list-inside-requires c κs = (c .before .before .before .before .pre .0, c .point-at .ensures .1)
@@ -53,8 +53,8 @@ loop-again c =
     let s = l .before .before in
     let isInside = insideList (primitives (s .args .table .now)) (s .args .list .now) in
     let hits = test (s .args .table .now) (s .args .list .now) (s .args .samples .now) (s .args .place) in
-    let hit : c .before .list-inside .result ≡ hits (l .loop .k) =
-    c .before .list-inside .ensures ∙ ap isInside (c .before .before .point-at .ensures .0) ∙ sym (one-code isInside (s .args .samples .now) (s .args .place) (l .loop .k)) in
+    let point : c .before .before .point-at .result ≡ pointOf (s .args .place) (l .loop .k) (codeAt (s .args .samples .now) (l .loop .k)) = c .before .before .point-at .ensures .0 in
+    let hit : c .before .list-inside .result ≡ hits (l .loop .k) = c .before .list-inside .ensures ∙ ap isInside point ∙ sym (one-code isInside (s .args .samples .now) (s .args .place) (l .loop .k)) in
     let next : c .counted .result ≡ stepped (l .loop .t) (l .loop .k) (hits (l .loop .k)) = c .counted .ensures ∙ ap (stepped (l .loop .t) (l .loop .k)) hit in
     (omega arith, subst (λ (t : Tally). Running hits (length (s .args .samples .now)) (l .loop .k + 1) t) (sym next) (goes-on hits (c .before .before .before .loop-test .taken) (l .loop .inv .1)))
 
