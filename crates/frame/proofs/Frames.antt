@@ -1,7 +1,7 @@
 -- What the check of a frame comes to, rule by rule; and what a column holds. Assumes nothing.
-use Prim.Native.Nat.{ℕ, _≤_}
+use Prim.Native.Nat.{_≤_}
 use native.Mathlib.Omega.{arith}
-use mathlib.Core.Bool.{Bool, true, false, _||_, or-false as no-more}
+use mathlib.Core.Bool.{Bool, true, false, _||_}
 use mathlib.Core.List.{List}
 use mathlib.Core.Option.{none}
 use mathlib.Core.Path.{_≡_}
@@ -9,11 +9,10 @@ use borrow.Author.Tests.{eqb-false, ltb-false}
 use lib.Dec.{eqb, ltb}
 use lib.IntN.{ℤ}
 use lib.ListN.{length}
-use Rattle.ground.specs.Lists.{below, allOf, anyOf, firstOf}
+use Rattle.ground.specs.Lists.{below, allOf, firstOf}
 use Rattle.rules.specs.declared.Place.{Place}
-use Rattle.rules.specs.declared.Point.{Point}
 use Rattle.rules.specs.Ranges.{within, columns, frames}
-use Rattle.rules.specs.Frame.{mostSamples, column, codeAt, pointOf, frameRefusal, sampleInside}
+use Rattle.rules.specs.Frame.{mostSamples, column, frameRefusal}
 use Rattle.rules.specs.Refusals.{refuse}
 use Rattle.laws.proofs.Columns.{ends-are-all}
 use Rattle.laws.proofs.Soundness.{or-false}
@@ -52,8 +51,3 @@ module _ (samples : List ℤ) (place : Place) where
     pub frame-fine : rightColumns ≡ true → within frames (place .frame) ≡ true → frameRefusal samples place ≡ none
     unfolding firstOf
     frame-fine h g = rw (l, ← by-ends, h, g)
-
--- a column holds one code
-pub one-code : (isInside : Point → Bool) (samples : List ℤ) (place : Place) (k : ℕ) → sampleInside isInside samples place k ≡ isInside (pointOf place k (codeAt samples k))
-unfolding anyOf
-one-code isInside samples place k = no-more (isInside (pointOf place k (codeAt samples k)))

@@ -2,6 +2,7 @@ pub mod Lists
 pub mod Splits
 pub mod Signed
 pub mod Branches
+pub mod Saying
 pub mod Num
 pub mod Counting
 pub mod Pieces

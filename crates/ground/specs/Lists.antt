@@ -2,6 +2,7 @@
 use Prim.Native.Nat.{ℕ, zero, suc, _-_}
 use mathlib.Core.Bool.{Bool, true, false, _&&_, _||_}
 use mathlib.Core.List.{List, [], _∷_, map}
+use mathlib.Core.Logic.{_⊎_}
 use mathlib.Core.Option.{Option, none, some}
 use Rattle.ground.specs.Tests.{if_then_else_}
 
@@ -58,3 +59,8 @@ module _ {A : Type 0} where
   abbrev pub All : (A → Type 0) → List A → Type 0
   All P [] = Unit {0}
   All P (x ∷ xs) = P x × All P xs
+
+  -- some element has it
+  abbrev pub Some : (A → Type 0) → List A → Type 0
+  Some P [] = ⊥
+  Some P (x ∷ xs) = P x ⊎ Some P xs

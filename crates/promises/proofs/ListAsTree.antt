@@ -3,7 +3,7 @@ use Prim.Native.Nat.{ℕ, zero, suc, _+_, _≤_, _<_}
 use native.Mathlib.Nat.{le-refl}
 use native.Mathlib.Numerals.{add-one}
 use native.Mathlib.Omega.{arith}
-use mathlib.Core.Bool.{Bool, true, false, _&&_, _||_}
+use mathlib.Core.Bool.{Bool, true, false, _&&_}
 use mathlib.Core.List.{List, [], _∷_, _++_}
 use mathlib.Core.Option.{Option, none, some}
 use mathlib.Core.Path.{_≡_, refl, sym, ap, ap₂, _∙_}
@@ -44,6 +44,7 @@ use Rattle.rules.specs.Verdict.{tableRefusal}
 use Rattle.rules.proofs.Settled.{tree-located-settled}
 use Rattle.rules.proofs.Told.{searched-once, wrote-none}
 use Rattle.laws.specs.Sound.{Sound}
+use Rattle.laws.proofs.Columns.{one-code}
 use Rattle.laws.proofs.Telling.{holds-point}
 use Rattle.promises.proofs.MadePasses.{made-window, made-accepted, made-sound}
 use Rattle.promises.proofs.Placing.{tree-choices}
@@ -102,10 +103,10 @@ module _ {A : Type 0} (p q : A → Bool) where
 module _ (f g : Point → Bool) (samples : List ℤ) (place : Place)
     (agree : (k : ℕ) → k < length samples → f (pointOf place k (codeAt samples k)) ≡ g (pointOf place k (codeAt samples k))) where
   each-sample : All (λ k. sampleInside f samples place k ≡ sampleInside g samples place k) (below (length samples))
-  unfolding anyOf
   each-sample =
       all-map (λ k. k < 0 + length samples) (λ k. sampleInside f samples place k ≡ sampleInside g samples place k)
-      (λ k l. ap (λ (b : Bool). b || false) (agree k (omega arith))) (below (length samples)) (numbers-below 0 (length samples))
+      (λ k l. one-code f samples place k ∙ agree k (omega arith) ∙ sym (one-code g samples place k)) (below (length samples))
+      (numbers-below 0 (length samples))
 
   search-same : searchTale (firstInside f samples place) (insideCount f samples place)
       ≡ searchTale (firstInside g samples place) (insideCount g samples place)

@@ -6,6 +6,7 @@ use mathlib.Core.Option.{Option}
 use mathlib.Core.Path.{_≡_, ap, subst, _∙_}
 use lib.IntN.{ℤ}
 use lib.ListN.{length}
+use Rattle.ground.proofs.Saying.{says-itself}
 use Rattle.rules.specs.declared.Refusal.{Refusal}
 use Rattle.rules.specs.declared.Window.{Window}
 use Rattle.rules.specs.declared.Written.{Written}
@@ -30,7 +31,7 @@ use Rattle.promises.proofs.Copies.{list-needs, listable-fine, not-refus
 use Rattle.promises.proofs.Outcomes.{check-answers, point-answers, search-answers, writes, read-answer}
 use Rattle.promises.proofs.Buffers.{list-right, list-rest, list-room}
 use Rattle.promises.proofs.Searches.{search-finds}
-use Rattle.promises.proofs.Sets.{says-itself, tests-are-sets, tree-answers-sets}
+use Rattle.promises.proofs.Sets.{tests-are-sets, tree-answers-sets}
 use Rattle.promises.proofs.Strangers.{stranger-refused}
 use Rattle.promises.proofs.RoundTrips.{writes-text, table-text-table, reads-text, text-table-text}
 

@@ -2,19 +2,20 @@
 use Prim.Native.Nat.{ℕ, zero, suc, _+_, _≤_, _<_}
 use native.Mathlib.Decide.{decLe}
 use native.Mathlib.Omega.{arith}
-use mathlib.Core.Bool.{Bool, true, false, or-false}
+use mathlib.Core.Bool.{Bool, true, false}
 use mathlib.Core.List.{List}
 use mathlib.Core.Option.{Option, none, some}
 use mathlib.Core.Path.{_≡_, sym, subst, _∙_}
 use lib.IntN.{ℤ}
 use lib.ListN.{length}
-use Rattle.ground.specs.Lists.{from, below, anyOf, countIf, findIf}
+use Rattle.ground.specs.Lists.{from, below, countIf, findIf}
 use Rattle.ground.specs.Tests.{Says, if_then_else_}
+use Rattle.ground.proofs.Saying.{says-any}
 use Rattle.rules.specs.declared.Place.{Place}
 use Rattle.rules.specs.declared.Point.{Point}
 use Rattle.rules.specs.declared.Refusal.{Refusal}
 use Rattle.rules.specs.declared.Searched.{Searched}
-use Rattle.rules.specs.Frame.{codeAt, pointOf, sampleInside, firstInside, insideCount}
+use Rattle.rules.specs.Frame.{heldCodes, pointOf, sampleInside, firstInside, insideCount}
 use Rattle.rules.specs.Told.{tell, toldSearched}
 use Rattle.rules.specs.TreeCalls.{searchTale}
 use Rattle.promises.specs.Promises.{SampleIn, Counted, Found, Search}
@@ -175,10 +176,9 @@ module _ (isInside : Point → Bool) (Holds : Point → Type 0) (says : (p : Poi
   abbrev In : ℕ → Type 0
   In = SampleIn Holds samples place
 
-  -- the column of a sample holds one code, its own
   sample-says : (k : ℕ) → Says (test k) (In k)
-  unfolding anyOf
-  sample-says k = let p = pointOf place k (codeAt samples k) in subst (λ (b : Bool). Says b (Holds p)) (sym (or-false (isInside p))) (says p)
+  sample-says k =
+      says-any (λ code. isInside (pointOf place k code)) (λ code. Holds (pointOf place k code)) (λ code. says (pointOf place k code)) (heldCodes samples k)
 
   pub search-finds : {Meets : Searched → Type 0} (x : Option Refusal)
       → ((r : Searched) → Meets r → toldSearched r ≡ tell x (searchTale (firstInside isInside samples place) (insideCount isInside samples place)))

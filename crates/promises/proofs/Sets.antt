@@ -1,12 +1,11 @@
 -- At every integer point in range the tree's answer is that of the set operations. Assumes nothing.
-use mathlib.Core.Bool.{Bool, true, false, not, _&&_, _||_}
+use mathlib.Core.Bool.{Bool, true, false, not}
 use mathlib.Core.List.{List, [], _∷_}
-use mathlib.Core.Logic.{_⊎_, inl, inr, ⊎-elim}
 use mathlib.Core.Option.{none}
-use mathlib.Core.Path.{_≡_, refl, sym, _∙_}
+use mathlib.Core.Path.{_≡_, sym, _∙_}
 use lib.IntN.{ℤ}
 use Rattle.ground.specs.Tests.{Says}
-use Rattle.ground.proofs.Branches.{false-true}
+use Rattle.ground.proofs.Saying.{says-or, says-and, says-not, says-itself}
 use Rattle.rules.specs.declared.Located.{Located}
 use Rattle.rules.specs.declared.Point.{Point}
 use Rattle.rules.specs.Boxes.{holds, everywhere}
@@ -18,24 +17,6 @@ use Rattle.rules.specs.TreeCalls.{pointRefusal, pointTale, TreeLocated}
 use Rattle.promises.specs.Promises.{BySet}
 use Rattle.promises.specs.Sets.{InSet}
 use Rattle.laws.proofs.Telling.{told-later, told-fine, holds-point}
-
-says-or : (a b : Bool) (X Y : Type 0) → Says a X → Says b Y → Says (a || b) (X ⊎ Y)
-says-or true b X Y x y = inl x
-says-or false true X Y x y = inr y
-says-or false false X Y x y = ⊎-elim x y
-
-says-and : (a b : Bool) (X Y : Type 0) → Says a X → Says b Y → Says (a && b) (X × Y)
-says-and true true X Y x y = (x, y)
-says-and true false X Y x y = λ k. y (k .1)
-says-and false b X Y x y = λ k. x (k .0)
-
-says-not : (b : Bool) (Y : Type 0) → Says b Y → Says (not b) (Y → ⊥)
-says-not true Y y = λ k. k y
-says-not false Y y = y
-
-pub says-itself : (b : Bool) → Says b (b ≡ true)
-says-itself true = refl
-says-itself false = λ e. false-true e
 
 -- the definition by tests is the definition by sets
 pub tests-are-sets : (tree : Tree) (p : Point) → Says (inside tree p) (InSet tree p)

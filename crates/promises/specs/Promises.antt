@@ -9,7 +9,7 @@ use mathlib.Core.Option.{Option, none, some}
 use mathlib.Core.Path.{_≡_}
 use lib.IntN.{ℤ}
 use lib.ListN.{length, take}
-use Rattle.ground.specs.Lists.{All, keepIf}
+use Rattle.ground.specs.Lists.{All, Some, keepIf}
 use Rattle.rules.specs.declared.Located.{Located}
 use Rattle.rules.specs.declared.Place.{Place}
 use Rattle.rules.specs.declared.Point.{Point}
@@ -20,7 +20,7 @@ use Rattle.rules.specs.declared.Window.{Window}
 use Rattle.rules.specs.declared.Written.{Written}
 use Rattle.rules.specs.Boxes.{holds, everywhere, windowBox}
 use Rattle.rules.specs.Choices.{choices, inOf, expansion}
-use Rattle.rules.specs.Frame.{codeAt, pointOf, frameRefusal}
+use Rattle.rules.specs.Frame.{codeAt, heldCodes, pointOf, frameRefusal}
 use Rattle.rules.specs.ListCalls.{mostChoices, windowRefusal, makeRefusal, ListMade, listPointRefusal, ListLocated, listSearchRefusal, ListSearched}
 use Rattle.rules.specs.ListInside.{insideList}
 use Rattle.rules.specs.ListWords.{headerWords, productWords, listOf, word}
@@ -95,9 +95,13 @@ InWindow w p = holds (windowBox w) p ≡ true
 abbrev pub OutOfWindow : Window → Point → Type 0
 OutOfWindow w p = holds (windowBox w) p ≡ false
 
--- sample k of a frame is in a set when its point is
+-- sample k of a frame is inside a set when some code that its column holds is, at that column and frame
 abbrev pub SampleIn : (Point → Type 0) → List ℤ → Place → ℕ → Type 0
-SampleIn Holds samples place k = Holds (pointOf place k (codeAt samples k))
+SampleIn Holds samples place k = Some (λ code. Holds (pointOf place k code)) (heldCodes samples k)
+
+-- the sample itself, by its own code
+abbrev pub SampleAt : (Point → Type 0) → List ℤ → Place → ℕ → Type 0
+SampleAt Holds samples place k = Holds (pointOf place k (codeAt samples k))
 
 -- the answer at a point: inside where the zone holds it, outside where it does not
 pub record BySet (InZone : Type 0) (r : Located) : Type 0 where
@@ -123,11 +127,11 @@ pub record Faithful (t : List ℤ) (w : Window) (list : List ℕ) : Type 0 where
   pub refuses : (p : Point) → OutOfWindow w p → {r : Located} → ListLocated t list p r
       → (axis : ℕ) × (pointRefusal (windowBox w) p ≡ refuse 10 axis) × (toldLocated r ≡ refused (record { number = 10; value = axis }))
   -- so with frames: where all samples are in the window, a search gives the tree's answer
-  pub frame-as-tree : (samples : List ℤ) (place : Place) → ((k : ℕ) → k < length samples → SampleIn (InWindow w) samples place k)
+  pub frame-as-tree : (samples : List ℤ) (place : Place) → ((k : ℕ) → k < length samples → SampleAt (InWindow w) samples place k)
       → {r s : Searched} → ListSearched t list samples place r → TreeSearched t samples place s → r ≡ s
   -- every other frame that is right in itself it refuses: 10, with the first sample that is out of the window
   pub refuses-frame : (samples : List ℤ) (place : Place) → frameRefusal samples place ≡ none
-      → (k : ℕ) → k < length samples → SampleIn (OutOfWindow w) samples place k → ((j : ℕ) → j < k → SampleIn (InWindow w) samples place j)
+      → (k : ℕ) → k < length samples → SampleAt (OutOfWindow w) samples place k → ((j : ℕ) → j < k → SampleAt (InWindow w) samples place j)
       → {r : Searched} → ListSearched t list samples place r → toldSearched r ≡ refused (record { number = 10; value = k })
 
 -- exactly `count` of the positions below n are inside: `position` gives each of them once, rising

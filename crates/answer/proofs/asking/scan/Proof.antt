@@ -10,7 +10,7 @@ use Rattle.rules.specs.ListInside.{insideList}
 use Rattle.rules.specs.Table.{primitives}
 use Rattle.rules.specs.declared.Place.{Place}
 use Rattle.laws.proofs.Columns.{frame-right}
-use Rattle.frame.proofs.Frames.{one-code}
+use Rattle.laws.proofs.Columns.{one-code}
 use Rattle.frame.proofs.Tallies.{Running, begins, goes-on, ends}
 use Rattle.frame.specs.Tallies.{stepped}
 use Rattle.frame.specs.declared.Tally.{Tally}
