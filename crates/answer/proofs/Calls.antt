@@ -9,7 +9,7 @@ use lib.Dec.{eqb, ltb}
 use lib.IntN.{ℤ}
 use lib.ListN.{length}
 use Rattle.ground.specs.Lists.{below, orElse, firstOf, rulings}
-use Rattle.ground.proofs.Counting.{first-kept}
+use Rattle.ground.proofs.Counting.{first-kept, first-append, first-rulings}
 use Rattle.rules.specs.declared.Checked.{Checked}
 use Rattle.rules.specs.declared.Checked.the-variants as checked
 use Rattle.rules.specs.declared.Located.{Located}
@@ -31,7 +31,6 @@ use Rattle.rules.specs.TreeCalls.{pointRefusal, pointTale, searchTale}
 use Rattle.rules.specs.Verdict.{tableRefusal}
 use Rattle.laws.specs.Checking.{checkedBy}
 use Rattle.laws.proofs.Telling.{told-now, told-later, told-fine}
-use Rattle.laws.proofs.SoundLists.{first-append, first-rulings}
 use Rattle.laws.proofs.Soundness.{unless-kept}
 use Rattle.frame.specs.declared.Tally.{Tally}
 use Rattle.frame.specs.Tallies.{seen, Tallied}
@@ -83,7 +82,7 @@ module _ (t : List ℤ) (list : List ℕ) where
   accepted e =
       let a = first-kept (tableRefusal t) (listRefusal list ∷ primitivesRefusal (primitives t) list ∷ []) e in
       let b = first-kept (listRefusal list) (primitivesRefusal (primitives t) list ∷ []) (a .1) in
-      record { accepts = e; table = a .0; listed = b .0; counts = first-kept (primitivesRefusal (primitives t) list) [] (b .1) .0 }
+      record { accepts = e; table = a .0; list-right = b .0; counts = first-kept (primitivesRefusal (primitives t) list) [] (b .1) .0 }
 
   -- the list has as many primitives as the table
   pub same-counts : Accepted t list → primitiveCount list ≡ length (primitives t)

@@ -4,25 +4,24 @@ use native.Mathlib.Nat.{pow-suc}
 use native.Mathlib.Omega.{arith}
 use mathlib.Core.Bool.{Bool, true, false, not, _&&_, _||_, Bool·not-not}
 use mathlib.Core.List.{List, [], _∷_, _++_}
-use mathlib.Core.Option.{Option, none, some}
+use mathlib.Core.Option.{Option}
 use mathlib.Core.Path.{_≡_, refl, sym, ap, ap₂, _∙_}
 use borrow.Author.Tests.{leb-true, leb-false, le-leb, lt-leb, le-ltb, lt-ltb}
 use lib.Bits.{bitAnd}
 use lib.Dec.{eqb, leb, ltb, leb·suc-suc}
 use lib.ListN.{length}
 use lib.Pow.{pow-mono}
-use Rattle.ground.specs.Lists.{orElse, firstOf}
-use Rattle.ground.proofs.Counting.{or-else-none}
+use Rattle.ground.specs.Lists.{firstOf}
 use Rattle.ground.proofs.Masks.{one-shifted}
 use Rattle.rules.specs.declared.Checked.{Checked}
+use Rattle.rules.specs.declared.Axis.the-variants.{Column, Code, Frame}
 use Rattle.rules.specs.declared.Product.{Product}
 use Rattle.rules.specs.declared.Refusal.{Refusal}
-use Rattle.rules.specs.ListFaults.{countRight, fits, plainRight, cutsRight, primitivesRight, productRefusals, headerRefusals}
-use Rattle.rules.specs.ListWords.{headerWords, productCount, primitiveCount, placeOf, productAt}
+use Rattle.rules.specs.ListFaults.{boundsRefusals, countRight, fits, plainRight, cutsRight, primitivesRight, productRefusals, headerRefusals}
+use Rattle.rules.specs.ListWords.{primitivesWord, headerWords, productCount, primitiveCount, placeOf, productAt}
 use Rattle.rules.specs.Refusals.{refuseIf, refuseUnless}
-use Rattle.laws.specs.Checking.{checkedBy}
-use Rattle.laws.proofs.SoundLists.{first-append}
-use Rattle.answer.specs.Checks.{firstRefused, boundsBy}
+use Rattle.laws.specs.Checking.{checkedBy, firstRefused}
+use Rattle.laws.proofs.Telling.{in-turn, alone, one-two}
 
 -- ---- tests
 
@@ -59,26 +58,6 @@ leb-same a b c d f g = go (leb a b) refl
 pub either-fails : (a b : Bool) (number value : ℕ) → refuseIf (not a || not b) number value ≡ refuseUnless (a && b) number value
 either-fails a b number value = ap (λ (t : Bool). refuseIf t number value) (not-and a b) ∙ if-not (a && b) number value
 
--- ---- checks one after the other
-
-earlier-by : (x y : Option Refusal) → firstRefused (checkedBy x) (checkedBy y) ≡ checkedBy (orElse x y)
-earlier-by none y = refl
-earlier-by (some r) y = refl
-
--- two checks by their rules
-pub in-turn : (xs ys : List (Option Refusal)) {a b r : Checked} → a ≡ checkedBy (firstOf xs) → b ≡ checkedBy (firstOf ys) → r ≡ firstRefused a b
-    → r ≡ checkedBy (firstOf (xs ++ ys))
-in-turn xs ys ha hb h = h ∙ ap₂ firstRefused ha hb ∙ earlier-by (firstOf xs) (firstOf ys) ∙ ap checkedBy (sym (first-append xs ys))
-
--- a check by one rule
-pub alone : (x : Option Refusal) {a : Checked} → a ≡ checkedBy x → a ≡ checkedBy (firstOf (x ∷ []))
-unfolding firstOf
-alone x h = h ∙ ap checkedBy (or-else-none x)
-
--- and two such
-pub one-two : (x y : Option Refusal) {a b r : Checked} → a ≡ checkedBy x → b ≡ checkedBy y → r ≡ firstRefused a b → r ≡ checkedBy (firstOf (x ∷ y ∷ []))
-one-two x y ha hb h = in-turn (x ∷ []) (y ∷ []) (alone x ha) (alone y hb) h
-
 -- ---- the header
 
 module _ (list : List ℕ) where
@@ -91,16 +70,16 @@ module _ (list : List ℕ) where
       = more-than ((length list - 8) / 2) n ∙ ap not (leb-same n ((length list - 8) / 2) (placeOf n) (length list) (λ h. omega arith) (λ h. omega arith)) in
       ap checkedBy (ap₂ (λ (a b : Bool). refuseIf (a || b) 9 0) (more-than 65536 n) room ∙ either-fails (leb n 65536) (leb (placeOf n) (length list)) 9 0)
 
-  pub primitives-by : checkedBy (refuseIf (ltb (primitiveCount list) 1 || ltb 64 (primitiveCount list)) 9 7) ≡ checkedBy (refuseUnless (primitivesRight list) 9 7)
+  pub primitives-by : checkedBy (refuseIf (ltb (primitiveCount list) 1 || ltb 64 (primitiveCount list)) 9 primitivesWord) ≡ checkedBy (refuseUnless (primitivesRight list) 9 primitivesWord)
   primitives-by =
       let n = primitiveCount list in
-      ap checkedBy (ap₂ (λ (a b : Bool). refuseIf (a || b) 9 7) (more-than n 1) (more-than 64 n) ∙ either-fails (leb 1 n) (leb n 64) 9 7)
+      ap checkedBy (ap₂ (λ (a b : Bool). refuseIf (a || b) 9 primitivesWord) (more-than n 1) (more-than 64 n) ∙ either-fails (leb 1 n) (leb n 64) 9 primitivesWord)
 
   -- words 0 to 7 in turn
   pub header-by : {frames primitives late codes later columns latest count all : Checked}
-      → frames ≡ checkedBy (firstOf (boundsBy list 5 65535)) → primitives ≡ checkedBy (refuseUnless (primitivesRight list) 9 7) → late ≡ firstRefused frames primitives
-      → codes ≡ checkedBy (firstOf (boundsBy list 3 65535)) → later ≡ firstRefused codes late
-      → columns ≡ checkedBy (firstOf (boundsBy list 1 65535)) → latest ≡ firstRefused columns later
+      → frames ≡ checkedBy (firstOf (boundsRefusals list Frame)) → primitives ≡ checkedBy (refuseUnless (primitivesRight list) 9 primitivesWord) → late ≡ firstRefused frames primitives
+      → codes ≡ checkedBy (firstOf (boundsRefusals list Code)) → later ≡ firstRefused codes late
+      → columns ≡ checkedBy (firstOf (boundsRefusals list Column)) → latest ≡ firstRefused columns later
       → count ≡ checkedBy (refuseUnless (countRight list) 9 0) → all ≡ firstRefused count latest
       → all ≡ checkedBy (firstOf (headerRefusals list))
   header-by frames primitives late codes later columns latest count all =
@@ -111,16 +90,16 @@ module _ (list : List ℕ) where
       counts = refuseUnless (countRight list) 9 0
 
       x : List (Option Refusal)
-      x = boundsBy list 1 65535
+      x = boundsRefusals list Column
 
       y : List (Option Refusal)
-      y = boundsBy list 3 65535
+      y = boundsRefusals list Code
 
       z : List (Option Refusal)
-      z = boundsBy list 5 65535
+      z = boundsRefusals list Frame
 
       last : Option Refusal
-      last = refuseUnless (primitivesRight list) 9 7
+      last = refuseUnless (primitivesRight list) 9 primitivesWord
 
 -- ---- products
 

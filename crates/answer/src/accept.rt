@@ -1,6 +1,6 @@
 // Accepting a list: its check word by word, and that it was made for as many primitives as the table has.
+use rules::Axis;
 use rules::Checked;
-use rules::Product;
 use rules::Row;
 ghost use Prim.Native.Nat.{suc, _+_, _*_, _^_, _≤_, _<_};
 ghost use mathlib.Core.List.{[], _∷_};
@@ -8,72 +8,71 @@ ghost use mathlib.Core.Path.{_≡_};
 ghost use lib.ListN.{length};
 ghost use Rattle.ground.specs.Lists.{firstOf, rulings};
 ghost use Rattle.rules.specs.Table.{rowCount, primitivesBefore, primitives};
-ghost use Rattle.rules.specs.ListWords.{headerWords, primitiveCount, placeOf, productAt};
-ghost use Rattle.rules.specs.ListFaults.{countRight, primitivesRight, productRefusals, headerRefusals, listRefusal, primitivesRefusal};
+ghost use Rattle.rules.specs.ListWords.{headerWords, primitivesWord, primitiveCount, placeOf};
+ghost use Rattle.rules.specs.ListFaults.{countRight, wordsRefusals, boundsRefusals, primitivesRight, productRefusals, headerRefusals, listRefusal, primitivesRefusal};
 ghost use Rattle.rules.specs.ListCalls.{acceptRefusal};
-ghost use Rattle.rules.specs.Refusals.{refuseIf, refuseUnless};
+ghost use Rattle.rules.specs.Refusals.{refuseUnless};
 ghost use Rattle.laws.specs.Checking.{checkedBy};
 ghost use Rattle.laws.specs.Sound.{Sound};
-ghost use Rattle.answer.specs.Checks.{firstRefused, boundsBy};
-
-fn refuse_if(broken: bool, number: u64, value: usize) -> Checked
-    ensures { λ r. ⌜ r ≡ checkedBy (refuseIf broken number value) ⌝ }
-{
-    if broken {
-        return table::refused(number, value);
-    }
-    Checked::Sound
-}
-
-// The first of two checks that refuses.
-fn first_of(a: Checked, b: Checked) -> Checked
-    ensures { λ r. ⌜ r ≡ firstRefused a b ⌝ }
-{
-    match a {
-        Checked::Refused(refusal) => Checked::Refused(refusal),
-        Checked::Sound => b,
-    }
-}
 
 // Word 0: no more products than the list's length holds.
 fn check_count(list: &[u64]) -> Checked
     requires { ⌜ headerWords ≤ length (now list) ⌝ }
     ensures { λ r. ⌜ r ≡ checkedBy (refuseUnless (countRight (now (list .entry))) 9 0) ⌝ }
 {
-    let room = ((list.len() - 8) / 2) as u64;
-    refuse_if((65536 < list[0]) | (room < list[0]), 9, 0)
-}
-
-// The bounds of an axis, in words i and i + 1.
-fn check_bounds(list: &[u64], i: usize, most: u64) -> Checked
-    requires { ⌜ i + 1 < length (now list) ⌝ }
-    ensures { λ r. ⌜ r ≡ checkedBy (firstOf (boundsBy (now (list .entry)) i most)) ⌝ }
-{
-    let lo = list[i];
-    let hi = list[i + 1];
-    first_of(
-        refuse_if(most < lo, 9, i),
-        refuse_if((most < hi) | (hi < lo), 9, i + 1),
+    let room = ((list.len() - rules::HEADER_WORDS) / rules::PRODUCT_WORDS) as u64;
+    table::refuse_if(
+        ((rules::MOST_PRODUCTS as u64) < list[0]) | (room < list[0]),
+        9,
+        0,
     )
 }
 
-// Word 7: 1 to 64 primitives.
-fn check_primitives(list: &[u64]) -> Checked
-    requires { ⌜ headerWords ≤ length (now list) ⌝ }
-    ensures { λ r. ⌜ r ≡ checkedBy (refuseUnless (primitivesRight (now (list .entry))) 9 7) ⌝ }
+// Bounds in words i and i + 1: each at most so much, and hi not below lo.
+fn check_words(list: &[u64], i: usize, most: u64) -> Checked
+    requires { ⌜ i + 1 < length (now list) ⌝ }
+    ensures { λ r. ⌜ r ≡ checkedBy (firstOf (wordsRefusals (now (list .entry)) i most)) ⌝ }
 {
-    refuse_if((list[7] < 1) | (64 < list[7]), 9, 7)
+    let lo = list[i];
+    let hi = list[i + 1];
+    table::first_of(
+        table::refuse_if(most < lo, 9, i),
+        table::refuse_if((most < hi) | (hi < lo), 9, i + 1),
+    )
 }
 
-// Words 0 to 7.
+// The bounds of an axis.
+fn check_bounds(list: &[u64], axis: Axis) -> Checked
+    requires { ⌜ headerWords ≤ length (now list) ⌝ }
+    ensures { λ r. ⌜ r ≡ checkedBy (firstOf (boundsRefusals (now (list .entry)) axis)) ⌝ }
+{
+    let i = layout::bounds_word(axis);
+    let most = layout::most_word(axis);
+    check_words(list, i, most)
+}
+
+// There are 1 to 64 primitives.
+fn check_primitives(list: &[u64]) -> Checked
+    requires { ⌜ headerWords ≤ length (now list) ⌝ }
+    ensures { λ r. ⌜ r ≡ checkedBy (refuseUnless (primitivesRight (now (list .entry))) 9 primitivesWord) ⌝ }
+{
+    let primitives = list[rules::PRIMITIVES_WORD];
+    table::refuse_if(
+        (primitives < 1) | (64 < primitives),
+        9,
+        rules::PRIMITIVES_WORD,
+    )
+}
+
+// The header, word by word.
 fn check_header(list: &[u64]) -> Checked
     requires { ⌜ headerWords ≤ length (now list) ⌝ }
     ensures { λ r. ⌜ r ≡ checkedBy (firstOf (headerRefusals (now (list .entry)))) ⌝ }
 {
-    let frames = first_of(check_bounds(list, 5, 65535), check_primitives(list));
-    let codes = first_of(check_bounds(list, 3, 65535), frames);
-    let columns = first_of(check_bounds(list, 1, 65535), codes);
-    first_of(check_count(list), columns)
+    let frames = table::first_of(check_bounds(list, Axis::Frame), check_primitives(list));
+    let codes = table::first_of(check_bounds(list, Axis::Code), frames);
+    let columns = table::first_of(check_bounds(list, Axis::Column), codes);
+    table::first_of(check_count(list), columns)
 }
 
 // The greatest set of so many primitives.
@@ -85,29 +84,17 @@ fn all_of(primitives: u64) -> u64
     half + (half - 1)
 }
 
-// Product k of a list.
-pub fn product_at(list: &[u64], k: usize) -> Product
-    requires { ⌜ placeOf (k + 1) ≤ length (now list) ⌝ }
-    ensures { λ r. ⌜ r ≡ productAt (now (list .entry)) k ⌝ }
-{
-    let at = 8 + 2 * k;
-    Product {
-        plain: list[at],
-        cuts: list[at + 1],
-    }
-}
-
 // The two words of product k, where `all` is the set of all primitives.
 fn check_product(list: &[u64], k: usize, all: u64) -> Checked
     requires { ⌜ placeOf (k + 1) ≤ length (now list) ⌝ }
     requires { ⌜ suc all ≡ 2 ^ primitiveCount (now list) ⌝ }
     ensures { λ r. ⌜ r ≡ checkedBy (firstOf (productRefusals (now (list .entry)) k)) ⌝ }
 {
-    let at = 8 + 2 * k;
-    let c = product_at(list, k);
-    let plain = refuse_if((c.plain == 0) | (all < c.plain), 9, at);
-    let cuts = refuse_if((all < c.cuts) | (c.plain & c.cuts != 0), 9, at + 1);
-    first_of(plain, cuts)
+    let at = rules::HEADER_WORDS + rules::PRODUCT_WORDS * k;
+    let c = layout::product_at(list, k);
+    let plain = table::refuse_if((c.plain == 0) | (all < c.plain), 9, at);
+    let cuts = table::refuse_if((all < c.cuts) | (c.plain & c.cuts != 0), 9, at + 1);
+    table::first_of(plain, cuts)
 }
 
 fn check_products(list: &[u64], products: usize, all: u64) -> Checked
@@ -132,13 +119,17 @@ fn check_products(list: &[u64], products: usize, all: u64) -> Checked
 pub fn check_list(list: &[u64]) -> Checked
     ensures { λ r. ⌜ r ≡ checkedBy (listRefusal (now (list .entry))) ⌝ }
 {
-    if list.len() < 8 {
+    if list.len() < rules::HEADER_WORDS {
         return table::refused(9, list.len());
     }
     let header = check_header(list);
     match header {
         Checked::Refused(refusal) => Checked::Refused(refusal),
-        Checked::Sound => check_products(list, list[0] as usize, all_of(list[7])),
+        Checked::Sound => check_products(
+            list,
+            list[0] as usize,
+            all_of(list[rules::PRIMITIVES_WORD]),
+        ),
     }
 }
 
@@ -179,7 +170,11 @@ fn check_counts(table: &[i32], list: &[u64]) -> Checked
     ensures { λ r. ⌜ r ≡ checkedBy (primitivesRefusal (primitives (now (table .entry))) (now (list .entry))) ⌝ }
 {
     let primitives = count_primitives(table);
-    refuse_if(list[7] != primitives as u64, 11, primitives)
+    table::refuse_if(
+        list[rules::PRIMITIVES_WORD] != primitives as u64,
+        11,
+        primitives,
+    )
 }
 
 // The table is sound: the list, then the list against the table.

@@ -9,14 +9,13 @@ use rules::Product;
 use rules::Row;
 use rules::Searched;
 use rules::Window;
-ghost use Prim.Native.Nat.{_+_, _≤_, _<_};
+ghost use Prim.Native.Nat.{_+_, _<_};
 ghost use mathlib.Core.Bool.{true};
 ghost use mathlib.Core.Option.{none};
 ghost use mathlib.Core.Path.{_≡_};
 ghost use lib.ListN.{length};
 ghost use Rattle.rules.specs.Boxes.{holds, everywhere, windowBox};
 ghost use Rattle.rules.specs.Table.{rowCount, primitivesBefore, primitives};
-ghost use Rattle.rules.specs.ListWords.{lowered, listWindow};
 ghost use Rattle.rules.specs.ListInside.{insideList};
 ghost use Rattle.rules.specs.Frame.{frameRefusal, leavesRefusal, sampleInside};
 ghost use Rattle.rules.specs.ListCalls.{ListLocated, ListSearched};
@@ -27,28 +26,6 @@ ghost use Rattle.laws.specs.Held.{held, suits, suitsSome};
 ghost use Rattle.frame.specs.Tallies.{Tallied};
 ghost use Rattle.reach.specs.Gathering.{Gathers};
 ghost use Rattle.answer.specs.Checks.{holding, Accepted};
-
-// A bound of the window, from its word.
-fn bound(word: u64) -> i32
-    requires { ⌜ word ≤ 65535 ⌝ }
-    ensures { λ r. ⌜ r ≡ lowered 32768 word ⌝ }
-{
-    (word as i32) - 32768
-}
-
-fn window_of(list: &[u64]) -> Window
-    requires { ⌜ SoundList (now list) ⌝ }
-    ensures { λ r. ⌜ windowBox r ≡ listWindow (now (list .entry)) ⌝ }
-{
-    Window {
-        xlo: bound(list[1]),
-        xhi: bound(list[2]),
-        ylo: bound(list[3]),
-        yhi: bound(list[4]),
-        zlo: bound(list[5]),
-        zhi: bound(list[6]),
-    }
-}
 
 // One row more: a primitive is tested once.
 fn hold_row(table: &[i32], row: usize, p: Point, g: Gathered) -> Gathered
@@ -97,7 +74,7 @@ fn suits_some(list: &[u64], set: u64) -> bool
     let count = list[0] as usize;
     let mut k: usize = 0;
     while k < count {
-        if suits(crate::accept::product_at(list, k), set) {
+        if suits(layout::product_at(list, k), set) {
             return true;
         }
         k += 1;
@@ -118,7 +95,7 @@ fn point_in(table: &[i32], list: &[u64], p: Point) -> Located
     requires { ⌜ Accepted (now table) (now list) ⌝ }
     ensures { λ r. ⌜ ListLocated (now (table .entry)) (now (list .entry)) p r ⌝ }
 {
-    let placed = frame::check_point(window_of(list), p);
+    let placed = window::check_point(layout::window_of(list), p);
     match placed {
         Checked::Refused(refusal) => Located::Refused(refusal),
         Checked::Sound => {
@@ -148,7 +125,7 @@ fn check_leaves(w: Window, samples: &[i16], place: Place) -> Checked
 {
     let mut k: usize = 0;
     while k < samples.len() {
-        if !frame::in_window(w, frame::point_at(samples, place, k)) {
+        if !window::in_window(w, frame::point_at(samples, place, k)) {
             return table::refused(10, k);
         }
         k += 1;
@@ -178,7 +155,7 @@ fn search_in(table: &[i32], list: &[u64], samples: &[i16], place: Place) -> Sear
     requires { ⌜ frameRefusal (now samples) place ≡ none ⌝ }
     ensures { λ r. ⌜ ListSearched (now (table .entry)) (now (list .entry)) (now (samples .entry)) place r ⌝ }
 {
-    let placed = check_leaves(window_of(list), samples, place);
+    let placed = check_leaves(layout::window_of(list), samples, place);
     match placed {
         Checked::Refused(refusal) => Searched::Refused(refusal),
         Checked::Sound => frame::answer(scan(table, list, samples, place)),

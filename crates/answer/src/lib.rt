@@ -2,7 +2,5 @@
 mod accept;
 mod asking;
 
-pub use accept::check_list;
-pub use accept::product_at;
 pub use asking::list_point;
 pub use asking::list_search;

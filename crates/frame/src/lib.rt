@@ -1,19 +1,18 @@
-// Where points and samples stand: the checks of a point and of a frame, the point of a sample, and the tally of a search.
+// Where samples stand: the check of a frame, the point of a sample, and the tally of a search.
+use rules::Axis;
 use rules::Checked;
 use rules::Place;
 use rules::Point;
 use rules::Searched;
-use rules::Window;
 ghost use Prim.Native.Nat.{_≤_, _<_};
 ghost use mathlib.Core.Bool.{true};
 ghost use mathlib.Core.Option.{none};
 ghost use mathlib.Core.Path.{_≡_};
 ghost use lib.ListN.{length};
-ghost use Rattle.rules.specs.Ranges.{within, frames};
-ghost use Rattle.rules.specs.Boxes.{holds, everywhere, windowBox};
+ghost use Rattle.rules.specs.Boxes.{holds, everywhere};
 ghost use Rattle.rules.specs.Frame.{codeAt, pointOf, frameRefusal};
 ghost use Rattle.rules.specs.Told.{fine, toldSearched};
-ghost use Rattle.rules.specs.TreeCalls.{axisRefusal, pointRefusal, searchTale};
+ghost use Rattle.rules.specs.TreeCalls.{searchTale};
 ghost use Rattle.laws.specs.Checking.{checkedBy};
 ghost use Rattle.frame.specs.Tallies.{columnsRight, seen, stepped};
 
@@ -21,60 +20,6 @@ ghost use Rattle.frame.specs.Tallies.{columnsRight, seen, stepped};
 pub struct Tally {
     pub first: usize,
     pub count: usize,
-}
-
-// The range of all points.
-pub fn everywhere() -> Window
-    ensures { λ r. ⌜ windowBox r ≡ everywhere ⌝ }
-{
-    Window {
-        xlo: rules::LEAST_COLUMN,
-        xhi: rules::GREATEST_COLUMN,
-        ylo: rules::LEAST_CODE,
-        yhi: rules::GREATEST_CODE,
-        zlo: rules::LEAST_FRAME,
-        zhi: rules::GREATEST_FRAME,
-    }
-}
-
-// The first axis on which a point is out, from whether it is in on each.
-fn first_out(x: bool, y: bool, z: bool) -> Checked
-    ensures { λ r. ⌜ r ≡ checkedBy (axisRefusal x y z) ⌝ }
-{
-    if !x {
-        return table::refused(10, 0);
-    }
-    if !y {
-        return table::refused(10, 1);
-    }
-    if !z {
-        return table::refused(10, 2);
-    }
-    Checked::Sound
-}
-
-// A coordinate lies between two ends, or at one of them.
-fn between(lo: i32, v: i32, hi: i32) -> bool
-    ensures { λ r. ⌜ r ≡ within (record { lo = lo; hi = hi }) v ⌝ }
-{
-    (lo <= v) & (v <= hi)
-}
-
-pub fn check_point(w: Window, p: Point) -> Checked
-    ensures { λ r. ⌜ r ≡ checkedBy (pointRefusal (windowBox w) p) ⌝ }
-{
-    first_out(
-        between(w.xlo, p.x, w.xhi),
-        between(w.ylo, p.y, w.yhi),
-        between(w.zlo, p.z, w.zhi),
-    )
-}
-
-// A point is in a window.
-pub fn in_window(w: Window, p: Point) -> bool
-    ensures { λ r. ⌜ r ≡ holds (windowBox w) p ⌝ }
-{
-    between(w.xlo, p.x, w.xhi) & (between(w.ylo, p.y, w.yhi) & between(w.zlo, p.z, w.zhi))
 }
 
 // Every column from `first` on is in range.
@@ -87,12 +32,6 @@ fn columns_right(first: i32, samples: usize) -> bool
         & (last <= (rules::GREATEST_COLUMN as i64))
 }
 
-fn frame_right(frame: i32) -> bool
-    ensures { λ r. ⌜ r ≡ within frames frame ⌝ }
-{
-    (rules::LEAST_FRAME <= frame) & (frame <= rules::GREATEST_FRAME)
-}
-
 pub fn check_frame(samples: &[i16], place: Place) -> Checked
     ensures { λ r. ⌜ r ≡ checkedBy (frameRefusal (now (samples .entry)) place) ⌝ }
 {
@@ -103,7 +42,7 @@ pub fn check_frame(samples: &[i16], place: Place) -> Checked
     if !columns_right(place.first, n) {
         return table::refused(12, 1);
     }
-    if !frame_right(place.frame) {
+    if !window::in_range(Axis::Frame, place.frame) {
         return table::refused(12, 2);
     }
     Checked::Sound

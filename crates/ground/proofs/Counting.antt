@@ -153,3 +153,31 @@ module _ (test : ℕ → Bool) where
 
   pub all-at-each : (n : ℕ) → allOf test (below n) ≡ true → (k : ℕ) → k < n → test k ≡ true
   all-at-each n h k l = go-at 0 n h k (omega arith) (omega arith)
+
+-- ---- the first broken rule of several lists of rules
+
+module _ {A : Type 0} where
+  or-else-assoc : (x y z : Option A) → orElse x (orElse y z) ≡ orElse (orElse x y) z
+  or-else-assoc none y z = refl
+  or-else-assoc (some a) y z = refl
+
+  pub first-append : (xs ys : List (Option A)) → firstOf (xs ++ ys) ≡ orElse (firstOf xs) (firstOf ys)
+  unfolding firstOf
+  first-append [] ys = refl
+  first-append (x ∷ xs) ys = ap (orElse x) (first-append xs ys) ∙ or-else-assoc x (firstOf xs) (firstOf ys)
+
+  first-each : (rules : ℕ → List (Option A)) (ks : List ℕ) → firstOf (flatMap rules ks) ≡ firstOf (map (λ k. firstOf (rules k)) ks)
+  unfolding firstOf flatMap
+  first-each rules [] = refl
+  first-each rules (k ∷ ks) = first-append (rules k) (flatMap rules ks) ∙ ap (orElse (firstOf (rules k))) (first-each rules ks)
+
+  -- some rules for each number
+  pub first-rulings : (rules : ℕ → List (Option A)) (n : ℕ) → firstOf (flatMap rules (below n)) ≡ rulings (λ k. firstOf (rules k)) 0 n
+  first-rulings rules n = first-each rules (below n) ∙ ap (λ (ks : List ℕ). firstOf (map (λ k. firstOf (rules k)) ks)) (sym (rest-all n))
+
+  pub none-append : (xs ys : List (Option A)) → firstOf (xs ++ ys) ≡ none → (firstOf xs ≡ none) × (firstOf ys ≡ none)
+  none-append xs ys e = both (firstOf xs) (firstOf ys) (sym (first-append xs ys) ∙ e)
+    where
+      both : (x y : Option A) → orElse x y ≡ none → (x ≡ none) × (y ≡ none)
+      both none y h = (refl, h)
+      both (some a) y h = (h, cc)

@@ -3,25 +3,24 @@ use Prim.Native.Nat.{ℕ, _+_, _^_, _<_}
 use native.Mathlib.Omega.{arith}
 use mathlib.Core.Bool.{Bool, true, _&&_}
 use mathlib.Core.List.{List}
-use mathlib.Core.Path.{_≡_, sym, ap, ap₂, subst, _∙_}
-use lib.IntN.{ℤ, pos, negsuc, _+ℤ_, +ℤ-comm}
+use mathlib.Core.Path.{_≡_, sym, ap₂, subst, _∙_}
 use lib.ListN.{length}
-use lib.Signed.{leZ}
 use Rattle.ground.specs.Lists.{below}
 use Rattle.ground.proofs.Branches.{and-left, and-right}
 use Rattle.ground.proofs.Counting.{numbers-below}
 use Rattle.ground.proofs.Lists.{all-map, any-mapped, any-same}
-use Rattle.ground.proofs.Order.{leZ-trans, leZ-add}
+use Rattle.rules.specs.declared.Axis.the-variants.{Column, Code, Frame}
 use Rattle.rules.specs.declared.Point.{Point}
 use Rattle.rules.specs.declared.Primitive.{Primitive}
 use Rattle.rules.specs.declared.Product.{Product}
 use Rattle.rules.specs.Boxes.{holds, everywhere}
 use Rattle.rules.specs.Inside.{insideSolid}
 use Rattle.rules.specs.ListInside.{insideProduct, insideList}
-use Rattle.rules.specs.ListWords.{lowered, word, listWindow, productCount, primitiveCount, productAt}
-use Rattle.rules.specs.Ranges.{Span, within, columns}
+use Rattle.rules.specs.ListWords.{word, listWindow, productCount, primitiveCount, productAt}
+use Rattle.rules.specs.Ranges.{within}
 use Rattle.laws.specs.Held.{held, suits, suitsSome}
-use Rattle.laws.specs.SoundList.{BoundsIn, SoundHeader, SoundList}
+use Rattle.laws.specs.SoundList.{SoundHeader, SoundList}
+use Rattle.laws.proofs.Axes.{lowered-in}
 use Rattle.laws.proofs.Reach.{chosen-places, chosen-none}
 
 -- ---- products by sets
@@ -49,24 +48,6 @@ module _ (solids : List Primitive) (p : Point) where
 
 -- ---- the window of a list
 
--- a word of a header, lowered, counts up from the least coordinate
-from-least : (w : ℕ) → lowered 32768 w ≡ negsuc 32767 +ℤ pos w
-from-least w = +ℤ-comm (pos w) (negsuc 32767)
-
-module _ (list : List ℕ) (i : ℕ) (b : BoundsIn list i) where
-  abbrev axis : Span
-  axis = record { lo = lowered 32768 (word list i); hi = lowered 32768 (word list (i + 1)) }
-
-  axis-in : (v : ℤ) → within axis v ≡ true → within columns v ≡ true
-  axis-in v h =
-      let low = lowered 32768 (word list i) in
-      let high = lowered 32768 (word list (i + 1)) in
-      let least : leZ (negsuc 32767) low ≡ true = ap (leZ (negsuc 32767)) (from-least (word list i)) ∙ leZ-add (negsuc 32767) 0 (word list i) (omega arith) in
-      let greatest : leZ high (pos 32767) ≡ true =
-      ap (λ (z : ℤ). leZ z (pos 32767)) (from-least (word list (i + 1))) ∙ leZ-add (negsuc 32767) (word list (i + 1)) 65535 (b .hi) in
-      ap₂ _&&_ (leZ-trans (negsuc 32767) low v least (and-left (leZ low v) (leZ v high) h))
-      (leZ-trans v high (pos 32767) (and-right (leZ low v) (leZ v high) h) greatest)
-
 -- a point of a list's window is in range
 pub list-window-in-range : (list : List ℕ) → SoundHeader list → (p : Point) → holds (listWindow list) p ≡ true → holds everywhere p ≡ true
 list-window-in-range list S p h =
@@ -74,5 +55,6 @@ list-window-in-range list S p h =
     let x = within (b .x) (p .x) in
     let y = within (b .y) (p .y) in
     let z = within (b .z) (p .z) in
-    ap₂ _&&_ (axis-in list 1 (S .x) (p .x) (and-left x (y && z) h))
-    (ap₂ _&&_ (axis-in list 3 (S .y) (p .y) (and-left y z (and-right x (y && z) h))) (axis-in list 5 (S .z) (p .z) (and-right y z (and-right x (y && z) h))))
+    ap₂ _&&_ (lowered-in Column (word list 1) (word list 2) (S .x .hi) (p .x) (and-left x (y && z) h))
+    (ap₂ _&&_ (lowered-in Code (word list 3) (word list 4) (S .y .hi) (p .y) (and-left y z (and-right x (y && z) h)))
+    (lowered-in Frame (word list 5) (word list 6) (S .z .hi) (p .z) (and-right y z (and-right x (y && z) h))))

@@ -1,6 +1,7 @@
 pub mod KindNumbers
 pub mod Soundness
 pub mod Spans
+pub mod Axes
 pub mod Ranges
 pub mod Trees
 pub mod Telling

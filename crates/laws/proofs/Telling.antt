@@ -1,11 +1,12 @@
 -- What an answer tells of the rule behind it. Assumes nothing.
 use mathlib.Core.Bool.{true, _&&_}
-use mathlib.Core.List.{List, [], _∷_}
+use mathlib.Core.List.{List, [], _∷_, _++_}
 use mathlib.Core.Option.{Option, none, some}
-use mathlib.Core.Path.{_≡_, refl, ap}
-use Rattle.ground.specs.Lists.{firstOf}
+use mathlib.Core.Path.{_≡_, refl, sym, ap, ap₂, _∙_}
+use Rattle.ground.specs.Lists.{orElse, firstOf}
 use Rattle.ground.proofs.Branches.{and-left, and-right}
-use Rattle.ground.proofs.Counting.{first-kept}
+use Rattle.ground.proofs.Counting.{or-else-none, first-kept, first-append}
+use Rattle.rules.specs.declared.Checked.{Checked}
 use Rattle.rules.specs.declared.Checked.the-variants as checked
 use Rattle.rules.specs.declared.Point.{Point}
 use Rattle.rules.specs.declared.Refusal.{Refusal}
@@ -14,7 +15,7 @@ use Rattle.rules.specs.Boxes.{Box, holds}
 use Rattle.rules.specs.Refusals.{refuseUnless}
 use Rattle.rules.specs.Told.{Tale, Told, sound, fine, refused, tell, toldChecked}
 use Rattle.rules.specs.TreeCalls.{pointRefusal}
-use Rattle.laws.specs.Checking.{checkedBy}
+use Rattle.laws.specs.Checking.{checkedBy, firstRefused}
 use Rattle.laws.proofs.Soundness.{unless-kept}
 
 -- what a check that went on, or stopped, found
@@ -30,6 +31,26 @@ stopped (some q) {r} e = let s : q ≡ r = cc in ap some s
 pub checked-told : (x : Option Refusal) → toldChecked (checkedBy x) ≡ tell x sound
 checked-told none = refl
 checked-told (some r) = refl
+
+-- ---- checks one after the other
+
+refused-first : (x y : Option Refusal) → firstRefused (checkedBy x) (checkedBy y) ≡ checkedBy (orElse x y)
+refused-first none y = refl
+refused-first (some r) y = refl
+
+-- two checks by their rules
+pub in-turn : (xs ys : List (Option Refusal)) {a b r : Checked} → a ≡ checkedBy (firstOf xs) → b ≡ checkedBy (firstOf ys) → r ≡ firstRefused a b
+    → r ≡ checkedBy (firstOf (xs ++ ys))
+in-turn xs ys ha hb h = h ∙ ap₂ firstRefused ha hb ∙ refused-first (firstOf xs) (firstOf ys) ∙ ap checkedBy (sym (first-append xs ys))
+
+-- a check by one rule
+pub alone : (x : Option Refusal) {a : Checked} → a ≡ checkedBy x → a ≡ checkedBy (firstOf (x ∷ []))
+unfolding firstOf
+alone x h = h ∙ ap checkedBy (or-else-none x)
+
+-- and two such
+pub one-two : (x y : Option Refusal) {a b r : Checked} → a ≡ checkedBy x → b ≡ checkedBy y → r ≡ firstRefused a b → r ≡ checkedBy (firstOf (x ∷ y ∷ []))
+one-two x y ha hb h = in-turn (x ∷ []) (y ∷ []) (alone x ha) (alone y hb) h
 
 -- ---- an answer by the first rule that is broken
 

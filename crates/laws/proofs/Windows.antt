@@ -1,7 +1,7 @@
 -- A window that is not refused: its bounds are in range, and it is not empty. Assumes nothing.
-use Prim.Native.Nat.{ℕ}
+use Prim.Native.Nat.{ℕ, _+_}
 use mathlib.Core.Bool.{true, false, _&&_, _||_}
-use mathlib.Core.List.{List, [], _∷_}
+use mathlib.Core.List.{List, [], _∷_, _++_}
 use mathlib.Core.Option.{Option, none}
 use mathlib.Core.Path.{_≡_, ap₂, _∙_}
 use borrow.Author.Tests.{not-true}
@@ -10,12 +10,14 @@ use lib.Signed.{leZ, ltZ}
 use Rattle.ground.specs.Lists.{firstOf}
 use Rattle.ground.proofs.Branches.{and-left, and-right}
 use Rattle.ground.proofs.Counting.{first-kept}
+use Rattle.rules.specs.declared.Axis.{Axis}
+use Rattle.rules.specs.declared.Axis.the-variants.{Column, Code, Frame}
 use Rattle.rules.specs.declared.Refusal.{Refusal}
 use Rattle.rules.specs.declared.Window.{Window}
-use Rattle.rules.specs.Ranges.{Span, within, columns, codes, frames}
+use Rattle.rules.specs.Ranges.{Span, within, range, columns, codes, frames}
 use Rattle.rules.specs.Boxes.{windowBox, empty}
 use Rattle.rules.specs.Refusals.{refuseUnless}
-use Rattle.rules.specs.ListCalls.{windowRefusal}
+use Rattle.rules.specs.ListCalls.{edgesRefusals, windowRefusal}
 use Rattle.laws.proofs.Soundness.{unless-kept}
 use Rattle.laws.proofs.Spaces.{not-less}
 
@@ -30,15 +32,15 @@ pub record RightWindow (w : Window) : Type 0 where
   pub y : Bounds codes (w .ylo) (w .yhi)
   pub z : Bounds frames (w .zlo) (w .zhi)
 
-axis-right : (s : Span) (lo hi : ℤ) (j k : ℕ) (others : List (Option Refusal))
-    → firstOf (refuseUnless (within s lo) 6 j ∷ refuseUnless (within s hi && leZ lo hi) 6 k ∷ others) ≡ none
-    → Bounds s lo hi × (firstOf others ≡ none)
-axis-right s lo hi j k others e =
-    let bounds = first-kept (refuseUnless (within s lo) 6 j) (refuseUnless (within s hi && leZ lo hi) 6 k ∷ others) e in
-    let upper = first-kept (refuseUnless (within s hi && leZ lo hi) 6 k) others (bounds .1) in
-    let both = unless-kept (within s hi && leZ lo hi) 6 k (upper .0) in (
+axis-right : (axis : Axis) (lo hi : ℤ) (i : ℕ) (others : List (Option Refusal)) → firstOf (edgesRefusals axis lo hi i ++ others) ≡ none
+    → Bounds (range axis) lo hi × (firstOf others ≡ none)
+axis-right axis lo hi i others e =
+    let s = range axis in
+    let bounds = first-kept (refuseUnless (within s lo) 6 i) (refuseUnless (within s hi && leZ lo hi) 6 (i + 1) ∷ others) e in
+    let upper = first-kept (refuseUnless (within s hi && leZ lo hi) 6 (i + 1)) others (bounds .1) in
+    let both = unless-kept (within s hi && leZ lo hi) 6 (i + 1) (upper .0) in (
       record {
-        lo-in = unless-kept (within s lo) 6 j (bounds .0);
+        lo-in = unless-kept (within s lo) 6 i (bounds .0);
         hi-in = and-left (within s hi) (leZ lo hi) both;
         rising = and-right (within s hi) (leZ lo hi) both;
       },
@@ -47,9 +49,9 @@ axis-right s lo hi j k others e =
 
 pub window-right : (w : Window) → windowRefusal w ≡ none → RightWindow w
 window-right w e =
-    let x = axis-right columns (w .xlo) (w .xhi) 0 1 _ e in
-    let y = axis-right codes (w .ylo) (w .yhi) 2 3 _ (x .1) in
-    let z = axis-right frames (w .zlo) (w .zhi) 4 5 [] (y .1) in
+    let x = axis-right Column (w .xlo) (w .xhi) 0 _ e in
+    let y = axis-right Code (w .ylo) (w .yhi) 2 _ (x .1) in
+    let z = axis-right Frame (w .zlo) (w .zhi) 4 [] (y .1) in
     record { x = x .0; y = y .0; z = z .0 }
 
 not-past : (a b : ℤ) → leZ a b ≡ true → ltZ b a ≡ false

@@ -42,7 +42,7 @@ module _ (rest : List ℕ) (d : Product) where
 
 module _ (w : Window) (primitiveCount : ℕ) (ps : List Product) where
   pub list-length : length (listOf w primitiveCount ps) ≡ placeOf (length ps)
-  list-length = length-append (headerOf w primitiveCount ps) (flatMap wordsOf ps) ∙ ap (λ (n : ℕ). 8 + n) (words-length ps)
+  list-length = length-append (headerOf w primitiveCount (length ps)) (flatMap wordsOf ps) ∙ ap (λ (n : ℕ). 8 + n) (words-length ps)
 
   -- whatever stands after the list
   module _ (rest : List ℕ) where
@@ -53,7 +53,7 @@ module _ (w : Window) (primitiveCount : ℕ) (ps : List Product) where
     list-product d k l = λ i. record { plain = plain i; cuts = cuts i }
       where
         past : (n : ℕ) → word (listOf w primitiveCount ps ++ rest) (8 + n) ≡ word (flatMap wordsOf ps ++ rest) n
-        past n = getD-append-add (headerOf w primitiveCount ps) (flatMap wordsOf ps ++ rest) n 0
+        past n = getD-append-add (headerOf w primitiveCount (length ps)) (flatMap wordsOf ps ++ rest) n 0
 
         plain : word (listOf w primitiveCount ps ++ rest) (placeOf k) ≡ getD ps k d .plain
         plain = past (2 * k) ∙ plain-at rest d ps k l

@@ -1,4 +1,4 @@
--- Answers as values, from what the rules give.
+-- Checks as values, from what the rules give.
 use mathlib.Core.Option.{Option, none, some}
 use Rattle.rules.specs.declared.Checked.{Checked}
 use Rattle.rules.specs.declared.Checked.the-variants as checked
@@ -8,3 +8,8 @@ use Rattle.rules.specs.declared.Refusal.{Refusal}
 abbrev pub checkedBy : Option Refusal → Checked
 checkedBy none = checked.Sound
 checkedBy (some r) = checked.Refused r
+
+-- the first of two checks that refuses
+abbrev pub firstRefused : Checked → Checked → Checked
+firstRefused (checked.Refused r) b = checked.Refused r
+firstRefused checked.Sound b = b

@@ -2,20 +2,22 @@
 use Prim.Native.Nat.{ℕ, _+_, _^_, _≤_, _<_}
 use mathlib.Core.List.{List}
 use lib.ListN.{length}
+use Rattle.rules.specs.declared.Axis.{Axis}
+use Rattle.rules.specs.declared.Axis.the-variants.{Column, Code, Frame}
 use Rattle.rules.specs.ListFaults.{mostProducts, mostPrimitives}
-use Rattle.rules.specs.ListWords.{headerWords, word, productCount, primitiveCount, placeOf, productAt}
+use Rattle.rules.specs.ListWords.{headerWords, mostWord, word, boundsWord, productCount, primitiveCount, placeOf, productAt}
 
--- the bounds of an axis, in words i and i + 1, are those of points in range
-pub record BoundsIn (list : List ℕ) (i : ℕ) : Type 0 where
-  pub lo : word list i ≤ 65535
-  pub hi : word list (i + 1) ≤ 65535
+-- the bounds of an axis are those of points in range
+pub record BoundsIn (list : List ℕ) (axis : Axis) : Type 0 where
+  pub lo : word list (boundsWord axis) ≤ mostWord axis
+  pub hi : word list (boundsWord axis + 1) ≤ mostWord axis
 
 pub record SoundHeader (list : List ℕ) : Type 0 where
   pub few : productCount list ≤ mostProducts
   pub room : placeOf (productCount list) ≤ length list
-  pub x : BoundsIn list 1
-  pub y : BoundsIn list 3
-  pub z : BoundsIn list 5
+  pub x : BoundsIn list Column
+  pub y : BoundsIn list Code
+  pub z : BoundsIn list Frame
   pub some-primitive : 1 ≤ primitiveCount list
   pub few-primitives : primitiveCount list ≤ mostPrimitives
 

@@ -8,9 +8,7 @@ use lib.Dec.{eqb}
 use lib.IntN.{ℤ}
 use lib.ListN.{length, take}
 use Rattle.rules.specs.declared.Product.{Product}
-use Rattle.rules.specs.declared.Window.{Window}
 use Rattle.rules.specs.Table.{rowCount}
-use Rattle.rules.specs.ListWords.{columnOffset, codeOffset, frameOffset, raised}
 use Rattle.laws.specs.Sound.{Sound}
 use Rattle.laws.specs.Plans.{Plan, ways}
 use Rattle.laws.specs.Survivors.{survivors}
@@ -50,16 +48,3 @@ pub record Ready (t : List ℤ) (bits counts meets : List ℕ) (primitives : ℕ
 pub record Measured (needed room words : ℕ) : Type 0 where
   pub enough : words ≤ room → needed ≤ room
   pub exact : room < words → words ≡ needed
-
--- the header's words
-abbrev pub header : Window → ℕ → ℕ → List ℕ
-header w primitives products =
-    products
-    ∷ raised columnOffset (w .xlo)
-    ∷ raised columnOffset (w .xhi)
-    ∷ raised codeOffset (w .ylo)
-    ∷ raised codeOffset (w .yhi)
-    ∷ raised frameOffset (w .zlo)
-    ∷ raised frameOffset (w .zhi)
-    ∷ primitives
-    ∷ []

@@ -5,23 +5,18 @@ use rules::Refusal;
 use rules::Window;
 use rules::Written;
 ghost use Prim.Native.Nat.{_+_, _*_, _≤_, _<_};
-ghost use mathlib.Core.Bool.{true, _&&_};
-ghost use mathlib.Core.List.{[], _∷_, _++_, flatMap};
+ghost use mathlib.Core.Bool.{true};
+ghost use mathlib.Core.List.{_++_, flatMap};
 ghost use mathlib.Core.Option.{none};
 ghost use mathlib.Core.Path.{_≡_};
 ghost use lib.ListN.{length};
 ghost use lib.Seq.{sets};
-ghost use lib.Signed.{leZ};
-ghost use Rattle.ground.specs.Lists.{firstOf};
-ghost use Rattle.rules.specs.Ranges.{within, columns};
 ghost use Rattle.rules.specs.Verdict.{tableRefusal};
-ghost use Rattle.rules.specs.ListWords.{raised, wordsOf};
+ghost use Rattle.rules.specs.ListWords.{wordsOf};
 ghost use Rattle.rules.specs.ListCalls.{windowRefusal, ListMade};
-ghost use Rattle.rules.specs.Refusals.{refuseUnless};
-ghost use Rattle.laws.specs.Checking.{checkedBy};
 ghost use Rattle.laws.specs.Plans.{count};
 ghost use Rattle.choice.specs.Steps.{Numbered, Remembered};
-ghost use Rattle.list.specs.Growth.{gained, rootPlan, survivorsTo, Ready, Measured, header};
+ghost use Rattle.list.specs.Growth.{gained, rootPlan, survivorsTo, Ready, Measured};
 
 // What a way of choosing adds to the list.
 pub enum Gain {
@@ -136,29 +131,6 @@ fn write_products(
     n
 }
 
-// A bound as a header has it: never negative.
-fn raise(bound: i32) -> u64
-    requires { ⌜ within columns bound ≡ true ⌝ }
-    ensures { λ r. ⌜ r ≡ raised 32768 bound ⌝ }
-{
-    ((bound as i64) + 32768) as u64
-}
-
-fn write_header(list: &mut [u64], w: Window, primitives: usize, products: usize)
-    requires { ⌜ windowRefusal w ≡ none ⌝ }
-    requires { ⌜ 8 ≤ length (now list) ⌝ }
-    ensures { λ _. ⌜ now (list .exit) ≡ sets (now (list .entry)) 0 (header w primitives products) ⌝ }
-{
-    list[0] = products as u64;
-    list[1] = raise(w.xlo);
-    list[2] = raise(w.xhi);
-    list[3] = raise(w.ylo);
-    list[4] = raise(w.yhi);
-    list[5] = raise(w.zlo);
-    list[6] = raise(w.zhi);
-    list[7] = primitives as u64;
-}
-
 // Words that are enough: room for every way where that is there, so that one pass does; else exactly what the products take.
 fn measure(
     room: usize,
@@ -179,58 +151,6 @@ fn measure(
         return most;
     }
     8 + 2 * tally(table, bits, counts, meets, primitives, seen, ways)
-}
-
-// The first of six bounds that is wrong, by what is right.
-fn first_wrong(xlo: bool, xhi: bool, ylo: bool, yhi: bool, zlo: bool, zhi: bool) -> Checked
-    ensures { λ r. ⌜ r ≡ checkedBy (firstOf (refuseUnless xlo 6 0 ∷ refuseUnless xhi 6 1 ∷ refuseUnless ylo 6 2 ∷ refuseUnless yhi 6 3 ∷ refuseUnless zlo 6 4 ∷ refuseUnless zhi 6 5 ∷ [])) ⌝ }
-{
-    if !xlo {
-        return table::refused(6, 0);
-    }
-    if !xhi {
-        return table::refused(6, 1);
-    }
-    if !ylo {
-        return table::refused(6, 2);
-    }
-    if !yhi {
-        return table::refused(6, 3);
-    }
-    if !zlo {
-        return table::refused(6, 4);
-    }
-    if !zhi {
-        return table::refused(6, 5);
-    }
-    Checked::Sound
-}
-
-// A bound is in a range; and it is not below another.
-fn lo_right(least: i32, greatest: i32, lo: i32) -> bool
-    ensures { λ r. ⌜ r ≡ within (record { lo = least; hi = greatest }) lo ⌝ }
-{
-    (least <= lo) & (lo <= greatest)
-}
-
-fn hi_right(least: i32, greatest: i32, lo: i32, hi: i32) -> bool
-    ensures { λ r. ⌜ r ≡ (within (record { lo = least; hi = greatest }) hi && leZ lo hi) ⌝ }
-{
-    ((least <= hi) & (hi <= greatest)) & (lo <= hi)
-}
-
-// Each bound is in range, and no hi is below its lo.
-fn check_window(w: Window) -> Checked
-    ensures { λ r. ⌜ r ≡ checkedBy (windowRefusal w) ⌝ }
-{
-    first_wrong(
-        lo_right(rules::LEAST_COLUMN, rules::GREATEST_COLUMN, w.xlo),
-        hi_right(rules::LEAST_COLUMN, rules::GREATEST_COLUMN, w.xlo, w.xhi),
-        lo_right(rules::LEAST_CODE, rules::GREATEST_CODE, w.ylo),
-        hi_right(rules::LEAST_CODE, rules::GREATEST_CODE, w.ylo, w.yhi),
-        lo_right(rules::LEAST_FRAME, rules::GREATEST_FRAME, w.zlo),
-        hi_right(rules::LEAST_FRAME, rules::GREATEST_FRAME, w.zlo, w.zhi),
-    )
 }
 
 // The ways are not too many: the room, then the list.
@@ -268,7 +188,7 @@ fn make_of(
         });
     }
     let n = write_products(list, table, bits, counts, &meets, primitives, seen, ways);
-    write_header(list, w, primitives, n);
+    layout::write_header(list, w, primitives, n);
     Written::Wrote(8 + 2 * n)
 }
 
@@ -296,7 +216,7 @@ fn make_in(list: &mut [u64], table: &[i32], w: Window) -> Written
     requires { ⌜ tableRefusal (now table) ≡ none ⌝ }
     ensures { λ r. ⌜ ListMade (now (table .entry)) w (now (list .entry)) (now (list .exit)) r ⌝ }
 {
-    let checked = check_window(w);
+    let checked = window::check_window(w);
     match checked {
         Checked::Refused(refusal) => Written::Refused(refusal),
         Checked::Sound => make_for(list, table, w),

@@ -16,7 +16,8 @@ use Rattle.rules.specs.declared.Written.{Written}
 use Rattle.rules.specs.declared.Written.the-variants.{Wrote, Refused}
 use Rattle.rules.specs.Choices.{expansion}
 use Rattle.rules.specs.ListCalls.{windowRefusal, choicesRefusal, zoneList, makeRefusal, ListMade}
-use Rattle.rules.specs.Listing.{fullRange, listingRoom, listLines, refusalLine, printed}
+use Rattle.rules.specs.Boxes.{fullRange}
+use Rattle.rules.specs.Listing.{listingRoom, listLines, refusalLine, printed}
 use Rattle.rules.specs.ListWords.{productCount, placeOf, productsIn}
 use Rattle.rules.specs.Products.{products}
 use Rattle.rules.specs.Refusals.{roomRefusal}

@@ -15,7 +15,8 @@ use Rattle.ground.proofs.Counting.{or-else-none, first-kept}
 use Rattle.rules.specs.declared.Refusal.{Refusal}
 use Rattle.rules.specs.declared.Written.the-variants.{Wrote, Refused}
 use Rattle.rules.specs.ListCalls.{makeRefusal}
-use Rattle.rules.specs.Listing.{fullRange, listingRoom, refusalLine, printed, listingRefusal, listing, ZoneListed}
+use Rattle.rules.specs.Boxes.{fullRange}
+use Rattle.rules.specs.Listing.{listingRoom, refusalLine, printed, listingRefusal, listing, ZoneListed}
 use Rattle.rules.specs.Products.{products}
 use Rattle.rules.specs.Refusals.{refuseUnless, roomRefusal}
 use Rattle.rules.specs.Table.{rowWords, mostRows, primitives}

@@ -4,7 +4,8 @@ use mathlib.Core.List.{List, [], _∷_, _++_, map, flatMap}
 use lib.IntN.{ℤ}
 use Rattle.ground.specs.Lists.{below}
 use Rattle.rules.specs.ListCalls.{makeRefusal}
-use Rattle.rules.specs.Listing.{fullRange, listingRoom, wordText, productLine, printed}
+use Rattle.rules.specs.Boxes.{fullRange}
+use Rattle.rules.specs.Listing.{listingRoom, wordText, productLine, printed}
 use Rattle.rules.specs.ListWords.{productAt}
 use Rattle.rules.specs.Products.{products}
 use Rattle.rules.specs.Table.{primitives}

@@ -1,13 +1,11 @@
 // What the listing program prints for a text: the lines of the zone's list, or the line of a refusal.
 use rules::Refusal;
-use rules::Window;
 use rules::Written;
 ghost use Prim.Native.Nat.{_+_, _*_, _≤_};
 ghost use mathlib.Core.List.{[], _∷_, _++_};
-ghost use mathlib.Core.Path.{_≡_};
 ghost use lib.ListN.{length};
 ghost use Rattle.rules.specs.ListWords.{productCount, placeOf, productsIn};
-ghost use Rattle.rules.specs.Listing.{fullRange, wordText, listLines, refusalLine, ZoneListed};
+ghost use Rattle.rules.specs.Listing.{wordText, listLines, refusalLine, ZoneListed};
 ghost use Rattle.number.specs.Writing.{Put};
 ghost use Rattle.print.specs.Lines.{pairText, linesTo, tableListing};
 
@@ -39,7 +37,7 @@ fn put_products(out: &mut [u8], at: usize, list: &[u64], count: usize) -> usize
     let mut next = at;
     let mut k = 0;
     while k < count {
-        let c = answer::product_at(list, k);
+        let c = layout::product_at(list, k);
         next = put_pair(out, next, c.plain, c.cuts);
         k += 1;
     }
@@ -67,20 +65,6 @@ fn put_refusal(out: &mut [u8], r: Refusal) -> usize
     put_pair(out, named, r.number, r.value)
 }
 
-// The full range as a window.
-fn full_range() -> Window
-    ensures { λ r. ⌜ r ≡ fullRange ⌝ }
-{
-    Window {
-        xlo: rules::LEAST_COLUMN,
-        xhi: rules::GREATEST_COLUMN,
-        ylo: rules::LEAST_CODE,
-        yhi: rules::GREATEST_CODE,
-        zlo: rules::LEAST_FRAME,
-        zhi: rules::GREATEST_FRAME,
-    }
-}
-
 // Makes a table's list for the full range, in a buffer of 8,192 words, and writes what is printed for it: a first line of at most 26 bytes, and
 // at most 42 for each of 4,092 products.
 fn list_table(table: &[i32], out: &mut [u8]) -> usize
@@ -88,7 +72,7 @@ fn list_table(table: &[i32], out: &mut [u8]) -> usize
     ensures { λ r. ⌜ Put (now (out .entry)) 0 (tableListing (now (table .entry))) (now (out .exit)) r ⌝ }
 {
     let mut list: [u64; 8192] = [0; 8192];
-    let made = zone::make_list(table, full_range(), &mut list);
+    let made = zone::make_list(table, window::everywhere(), &mut list);
     match made {
         Written::Refused(refusal) => put_refusal(out, refusal),
         Written::Wrote(_) => put_list(out, &list),

@@ -6,18 +6,18 @@ use mathlib.Core.Bool.{Bool, true, false, _&&_, _||_}
 use mathlib.Core.List.{List, [], _∷_, _++_, flatMap}
 use mathlib.Core.Option.{Option, none}
 use mathlib.Core.Path.{_≡_, refl, sym, ap, ap₂, subst, _∙_}
-use borrow.Author.Tests.{ne-eqb, eq-eqb, leb-true, le-leb, lt-ltb, le-ltb}
+use borrow.Author.Tests.{ne-eqb, eq-eqb, le-leb, lt-ltb, le-ltb}
 use lib.Bits.{bitAnd, bitOr, and-le-l, and-le-r, and-comm}
-use lib.Dec.{leb, ltb}
-use lib.IntN.{ℤ, pos, negsuc, _+ℤ_, _-ℤ_, +ℤ-negℤ-cancel}
+use lib.Dec.{ltb}
+use lib.IntN.{ℤ}
 use lib.ListN.{length, getD}
 use lib.Pow.{pow-pos}
-use lib.Signed.{leZ}
 use Rattle.ground.specs.Lists.{All, from, below, orElse, firstOf}
-use Rattle.ground.proofs.Branches.{false-true, and-left, and-right}
 use Rattle.ground.proofs.Counting.{numbers-below}
 use Rattle.ground.proofs.Lists.{all-flatMap}
 use Rattle.ground.proofs.Masks.{has, Within, within-self, within-left, within-has, has-within, has-both, both-has, and-assoc, and-or, or-and}
+use Rattle.rules.specs.declared.Axis.{Axis}
+use Rattle.rules.specs.declared.Axis.the-variants.{Column, Code, Frame}
 use Rattle.rules.specs.declared.Product.{Product}
 use Rattle.rules.specs.declared.Refusal.{Refusal}
 use Rattle.rules.specs.declared.Window.{Window}
@@ -25,9 +25,9 @@ use Rattle.rules.specs.Boxes.{windowBox, share}
 use Rattle.rules.specs.Choices.{inOf, outOf, expansion}
 use Rattle.rules.specs.ListCalls.{mostChoices, windowRefusal, zoneList}
 use Rattle.rules.specs.ListFaults.{boundsRefusals, plainRight, cutsRight, productRefusals, listRefusal, primitivesRefusal}
-use Rattle.rules.specs.ListWords.{raised, lowered, word, listOf, listWindow, productCount, placeOf, productAt}
+use Rattle.rules.specs.ListWords.{mostWord, raised, word, boundsWord, listOf, listWindow, productCount, placeOf, productAt}
 use Rattle.rules.specs.Products.{boxOf, productBox, products}
-use Rattle.rules.specs.Ranges.{within, columns}
+use Rattle.rules.specs.Ranges.{range}
 use Rattle.rules.specs.Refusals.{refuseIf, refuseUnless}
 use Rattle.rules.specs.Table.{primitives, rowCount}
 use Rattle.rules.specs.Tree.{Tree, solid, union, inter, diff, treeOf}
@@ -35,6 +35,7 @@ use Rattle.promises.specs.EachOnce.{choice, EachOnce}
 use Rattle.laws.specs.Plans.{Plan, with-it, without, either, both, plan, nothing, ways, count, kth, mask, Apart}
 use Rattle.laws.specs.Reach.{reachIn, aliveIn}
 use Rattle.laws.specs.Sound.{Sound}
+use Rattle.laws.proofs.Axes.{raised-back, raised-rises, raised-most}
 use Rattle.laws.proofs.Apart.{mask-in-table, table-apart, few-primitives}
 use Rattle.promises.proofs.EachOnce.{each-once}
 use Rattle.laws.proofs.Survivors.{survivors-length}
@@ -42,28 +43,6 @@ use Rattle.laws.proofs.ZoneProducts.{plain-in-table, products-are-survivors}
 use Rattle.laws.proofs.Reach.{places-where}
 use Rattle.laws.proofs.Ways.{choices-ways, ways-count, ways-kth, kth-within, by-part, place-left, place-right}
 use Rattle.laws.proofs.Windows.{Bounds, window-right, window-filled}
-
--- ---- a bound as a header has it: the three axes have one range and one offset
-
-raised-below : (m : ℕ) → m ≤ 32767 → negsuc m +ℤ pos 32768 ≡ pos (32768 - suc m)
-raised-below m l = rw (le-ltb 32768 (suc m) (omega arith)) refl
-
-below-in : (m : ℕ) → within columns (negsuc m) ≡ true → m ≤ 32767
-below-in m h = leb-true m 32767 (and-left (leb m 32767) true h)
-
-raised-adds : (v : ℤ) → within columns v ≡ true → pos (raised 32768 v) ≡ v +ℤ pos 32768
-raised-adds (pos m) h = refl
-raised-adds (negsuc m) h = rw (raised-below m (below-in m h)) refl
-
-raised-back : (v : ℤ) → within columns v ≡ true → lowered 32768 (raised 32768 v) ≡ v
-raised-back v h = ap (λ (x : ℤ). x -ℤ pos 32768) (raised-adds v h) ∙ +ℤ-negℤ-cancel v (pos 32768)
-
-raised-rises : (a b : ℤ) → within columns a ≡ true → within columns b ≡ true → leZ a b ≡ true → raised 32768 a ≤ raised 32768 b
-raised-rises (pos m) (pos n) ha hb h = let l = leb-true m n h in omega arith
-raised-rises (pos m) (negsuc n) ha hb h = false-true h
-raised-rises (negsuc m) (pos n) ha hb h = rw (raised-below m (below-in m ha)) (omega arith)
-raised-rises (negsuc m) (negsuc n) ha hb h =
-    let l = leb-true n m h in rw (raised-below m (below-in m ha), raised-below n (below-in n hb)) (omega arith)
 
 -- ---- the header
 
@@ -74,9 +53,9 @@ module _ (t : List ℤ) (w : Window) (fine : windowRefusal w ≡ none) (rest : L
   made-window =
       let r = window-right w fine in
       λ i. record {
-        x = record { lo = raised-back (w .xlo) (r .x .lo-in) i; hi = raised-back (w .xhi) (r .x .hi-in) i };
-        y = record { lo = raised-back (w .ylo) (r .y .lo-in) i; hi = raised-back (w .yhi) (r .y .hi-in) i };
-        z = record { lo = raised-back (w .zlo) (r .z .lo-in) i; hi = raised-back (w .zhi) (r .z .hi-in) i };
+        x = record { lo = raised-back Column (w .xlo) (r .x .lo-in) i; hi = raised-back Column (w .xhi) (r .x .hi-in) i };
+        y = record { lo = raised-back Code (w .ylo) (r .y .lo-in) i; hi = raised-back Code (w .yhi) (r .y .hi-in) i };
+        z = record { lo = raised-back Frame (w .zlo) (r .z .lo-in) i; hi = raised-back Frame (w .zhi) (r .z .hi-in) i };
       }
 
 module _ (t : List ℤ) (w : Window) (rest : List ℕ) where
@@ -219,22 +198,20 @@ all-pass (x ∷ xs) k = one-passes x xs (k .0) (all-pass xs (k .1))
 unless-none : (b : Bool) (n v : ℕ) → b ≡ true → refuseUnless b n v ≡ none
 unless-none b n v e = ap (λ (x : Bool). refuseUnless x n v) e
 
-bounds-pass : (list : List ℕ) (i : ℕ) (lo hi : ℤ) → Bounds columns lo hi → word list i ≡ raised 32768 lo → word list (i + 1) ≡ raised 32768 hi
-    → (others : List (Option Refusal)) → firstOf others ≡ none → firstOf (boundsRefusals list i 32768 columns ++ others) ≡ none
-bounds-pass list i lo hi b e f others h =
-    one-passes _ _ (ap (λ (x : Bool). refuseIf x 9 i) lower)
-    (one-passes _ others (ap (λ (x : Bool). refuseIf x 9 (i + 1)) upper) h)
+bounds-pass : (list : List ℕ) (axis : Axis) (lo hi : ℤ) → Bounds (range axis) lo hi
+    → word list (boundsWord axis) ≡ raised axis lo → word list (boundsWord axis + 1) ≡ raised axis hi
+    → (others : List (Option Refusal)) → firstOf others ≡ none → firstOf (boundsRefusals list axis ++ others) ≡ none
+bounds-pass list axis lo hi b e f others h =
+    one-passes _ _ (ap (λ (x : Bool). refuseIf x 9 (boundsWord axis)) lower)
+    (one-passes _ others (ap (λ (x : Bool). refuseIf x 9 (boundsWord axis + 1)) upper) h)
   where
-    most : (v : ℤ) → within columns v ≡ true → raised 32768 v ≤ 65535
-    most v h = raised-rises v (pos 32767) h refl (and-right (leZ (negsuc 32767) v) (leZ v (pos 32767)) h)
+    lower : ltb (mostWord axis) (word list (boundsWord axis)) ≡ false
+    lower = ap (ltb (mostWord axis)) e ∙ le-ltb (mostWord axis) (raised axis lo) (raised-most axis lo (b .lo-in))
 
-    lower : ltb 65535 (word list i) ≡ false
-    lower = ap (ltb 65535) e ∙ le-ltb 65535 (raised 32768 lo) (most lo (b .lo-in))
-
-    upper : (ltb 65535 (word list (i + 1)) || ltb (word list (i + 1)) (word list i)) ≡ false
+    upper : (ltb (mostWord axis) (word list (boundsWord axis + 1)) || ltb (word list (boundsWord axis + 1)) (word list (boundsWord axis))) ≡ false
     upper =
-        ap₂ _||_ (ap (ltb 65535) f ∙ le-ltb 65535 (raised 32768 hi) (most hi (b .hi-in)))
-        (ap₂ ltb f e ∙ le-ltb (raised 32768 hi) (raised 32768 lo) (raised-rises lo hi (b .lo-in) (b .hi-in) (b .rising)))
+        ap₂ _||_ (ap (ltb (mostWord axis)) f ∙ le-ltb (mostWord axis) (raised axis hi) (raised-most axis hi (b .hi-in)))
+        (ap₂ ltb f e ∙ le-ltb (raised axis hi) (raised axis lo) (raised-rises axis lo hi (b .lo-in) (b .hi-in) (b .rising)))
 
 module _ (t : List ℤ) (w : Window) (S : Sound t) (fine : windowRefusal w ≡ none) (rest : List ℕ) where
   abbrev ps : List Product
@@ -283,7 +260,7 @@ module _ (t : List ℤ) (w : Window) (S : Sound t) (fine : windowRefusal w ≡ n
       let counts = ap₂ _&&_ (le-leb (length ps) 65536 (omega (arith, products-few, few))) (le-leb (placeOf (length ps)) (length buffer) room) in
       one-passes _ _ (ap (λ (b : Bool). refuseIf b 9 (length buffer)) (le-ltb (length buffer) 8 (omega (arith, room))))
       (one-passes _ _ (unless-none _ 9 0 counts)
-      (bounds-pass buffer 1 (w .xlo) (w .xhi) (r .x) refl refl _
-      (bounds-pass buffer 3 (w .ylo) (w .yhi) (r .y) refl refl _
-      (bounds-pass buffer 5 (w .zlo) (w .zhi) (r .z) refl refl _
+      (bounds-pass buffer Column (w .xlo) (w .xhi) (r .x) refl refl _
+      (bounds-pass buffer Code (w .ylo) (w .yhi) (r .y) refl refl _
+      (bounds-pass buffer Frame (w .zlo) (w .zhi) (r .z) refl refl _
       (one-passes _ _ (unless-none _ 9 7 (ap₂ _&&_ (le-leb 1 n (some-primitive t S)) (le-leb n 64 (few-primitives t S)))) products-pass)))))

@@ -31,7 +31,8 @@ use Rattle.rules.specs.Tree.{treeOf}
 use Rattle.rules.specs.TreeCalls.{TableChecked, TreeLocated, TreeSearched}
 use Rattle.rules.specs.ListCalls.{zoneList, makeRefusal, ListMade, ListLocated, ListSearched}
 use Rattle.rules.specs.TextCalls.{tableRead, formRefusal, readRefusal, TextRead, tableText, writeRefusal, TextWritten}
-use Rattle.rules.specs.Listing.{fullRange, listingRoom, printed, ZoneListed}
+use Rattle.rules.specs.Boxes.{fullRange}
+use Rattle.rules.specs.Listing.{listingRoom, printed, ZoneListed}
 use Rattle.rules.proofs.Told.{checked-once, located-once, searched-once, written-once, refused-some}
 use Rattle.rules.proofs.Lines.{text-once, header-rows, spelt-no-fault}
 

@@ -24,6 +24,10 @@ windowBox w = record {
   z = record { lo = w .zlo; hi = w .zhi };
 }
 
+-- the range of all points as a window
+abbrev pub fullRange : Window
+fullRange = record { xlo = columns .lo; xhi = columns .hi; ylo = codes .lo; yhi = codes .hi; zlo = frames .lo; zhi = frames .hi }
+
 -- what two spans have in common, and what two boxes have
 abbrev pub common : Span → Span → Span
 common a b = record {

@@ -1,14 +1,16 @@
 -- Section 13 of docs/RULES.md: what making a list promises, and what the calls that answer from a list promise.
-use Prim.Native.Nat.{ℕ}
+use Prim.Native.Nat.{ℕ, _+_}
 use mathlib.Core.Bool.{_&&_}
 use mathlib.Core.Path.{_≡_}
-use mathlib.Core.List.{List, [], _∷_}
+use mathlib.Core.List.{List, [], _∷_, _++_}
 use mathlib.Core.Option.{Option}
 use lib.Dec.{leb}
 use lib.IntN.{ℤ}
 use lib.ListN.{length}
 use lib.Signed.{leZ}
 use Rattle.ground.specs.Lists.{firstOf}
+use Rattle.rules.specs.declared.Axis.{Axis}
+use Rattle.rules.specs.declared.Axis.the-variants.{Column, Code, Frame}
 use Rattle.rules.specs.declared.Located.{Located}
 use Rattle.rules.specs.declared.Place.{Place}
 use Rattle.rules.specs.declared.Point.{Point}
@@ -16,7 +18,7 @@ use Rattle.rules.specs.declared.Refusal.{Refusal}
 use Rattle.rules.specs.declared.Searched.{Searched}
 use Rattle.rules.specs.declared.Window.{Window}
 use Rattle.rules.specs.declared.Written.{Written}
-use Rattle.rules.specs.Ranges.{within, columns, codes, frames}
+use Rattle.rules.specs.Ranges.{within, range}
 use Rattle.rules.specs.Table.{primitives}
 use Rattle.rules.specs.Verdict.{tableRefusal}
 use Rattle.rules.specs.Tree.{treeOf}
@@ -34,17 +36,14 @@ use Rattle.rules.specs.TreeCalls.{pointRefusal, pointTale, searchTale}
 abbrev pub mostChoices : ℕ
 mostChoices = 65536
 
--- the first bound out of range, or hi below lo, blamed on hi (6)
+-- the bounds of an axis, of which lo is bound i and hi the next: out of range, or hi below lo, blamed on hi (6)
+abbrev pub edgesRefusals : Axis → ℤ → ℤ → ℕ → List (Option Refusal)
+edgesRefusals axis lo hi i =
+    refuseUnless (within (range axis) lo) 6 i ∷ refuseUnless (within (range axis) hi && leZ lo hi) 6 (i + 1) ∷ []
+
 abbrev pub windowRefusal : Window → Option Refusal
 windowRefusal w =
-    firstOf
-    (refuseUnless (within columns (w .xlo)) 6 0
-    ∷ refuseUnless (within columns (w .xhi) && leZ (w .xlo) (w .xhi)) 6 1
-    ∷ refuseUnless (within codes (w .ylo)) 6 2
-    ∷ refuseUnless (within codes (w .yhi) && leZ (w .ylo) (w .yhi)) 6 3
-    ∷ refuseUnless (within frames (w .zlo)) 6 4
-    ∷ refuseUnless (within frames (w .zhi) && leZ (w .zlo) (w .zhi)) 6 5
-    ∷ [])
+    firstOf (edgesRefusals Column (w .xlo) (w .xhi) 0 ++ (edgesRefusals Code (w .ylo) (w .yhi) 2 ++ edgesRefusals Frame (w .zlo) (w .zhi) 4))
 
 -- too many ways of choosing (7)
 abbrev pub choicesRefusal : ℕ → Option Refusal

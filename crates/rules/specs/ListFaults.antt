@@ -7,11 +7,12 @@ use lib.Bits.{bitAnd}
 use lib.Dec.{eqb, leb, ltb}
 use lib.ListN.{length}
 use Rattle.ground.specs.Lists.{below, firstOf}
+use Rattle.rules.specs.declared.Axis.{Axis}
+use Rattle.rules.specs.declared.Axis.the-variants.{Column, Code, Frame}
 use Rattle.rules.specs.declared.Primitive.{Primitive}
 use Rattle.rules.specs.declared.Product.{Product}
 use Rattle.rules.specs.declared.Refusal.{Refusal}
-use Rattle.rules.specs.Ranges.{Span, columns, codes, frames}
-use Rattle.rules.specs.ListWords.{headerWords, columnOffset, codeOffset, frameOffset, raised, word, productCount, primitiveCount, placeOf, productAt}
+use Rattle.rules.specs.ListWords.{headerWords, mostWord, word, boundsWord, primitivesWord, productCount, primitiveCount, placeOf, productAt}
 use Rattle.rules.specs.Refusals.{refuseIf, refuseUnless}
 
 abbrev pub mostProducts : ℕ
@@ -24,12 +25,15 @@ mostPrimitives = 64
 abbrev pub countRight : List ℕ → Bool
 countRight list = leb (productCount list) mostProducts && leb (placeOf (productCount list)) (length list)
 
--- the bounds of an axis stand in words i and i + 1
-abbrev pub boundsRefusals : List ℕ → ℕ → ℕ → Span → List (Option Refusal)
-boundsRefusals list i offset axis =
-    refuseIf (ltb (raised offset (axis .hi)) (word list i)) 9 i
-    ∷ refuseIf (ltb (raised offset (axis .hi)) (word list (i + 1)) || ltb (word list (i + 1)) (word list i)) 9 (i + 1)
+-- bounds that stand in words i and i + 1 are at most `most`, and hi is not below lo
+abbrev pub wordsRefusals : List ℕ → ℕ → ℕ → List (Option Refusal)
+wordsRefusals list i most =
+    refuseIf (ltb most (word list i)) 9 i
+    ∷ refuseIf (ltb most (word list (i + 1)) || ltb (word list (i + 1)) (word list i)) 9 (i + 1)
     ∷ []
+
+abbrev pub boundsRefusals : List ℕ → Axis → List (Option Refusal)
+boundsRefusals list axis = wordsRefusals list (boundsWord axis) (mostWord axis)
 
 -- a set of primitives below n has no bit at or past n
 abbrev pub fits : ℕ → ℕ → Bool
@@ -54,10 +58,10 @@ primitivesRight list = leb 1 (primitiveCount list) && leb (primitiveCount list) 
 abbrev pub headerRefusals : List ℕ → List (Option Refusal)
 headerRefusals list =
     refuseUnless (countRight list) 9 0
-    ∷ (boundsRefusals list 1 columnOffset columns
-    ++ (boundsRefusals list 3 codeOffset codes
-    ++ (boundsRefusals list 5 frameOffset frames
-    ++ (refuseUnless (primitivesRight list) 9 7 ∷ []))))
+    ∷ (boundsRefusals list Column
+    ++ (boundsRefusals list Code
+    ++ (boundsRefusals list Frame
+    ++ (refuseUnless (primitivesRight list) 9 primitivesWord ∷ []))))
 
 unfoldable pub listRefusal : List ℕ → Option Refusal
 listRefusal list =

@@ -1,11 +1,14 @@
 -- Section 8 of docs/RULES.md: the list, word by word.
-use Prim.Native.Nat.{ℕ, _+_, _*_}
+use Prim.Native.Nat.{ℕ, suc, _+_, _*_}
 use mathlib.Core.List.{List, [], _∷_, _++_, map, flatMap}
 use lib.IntN.{ℤ, pos, natAbs, _+ℤ_, _-ℤ_}
 use lib.ListN.{length, getD}
 use Rattle.ground.specs.Lists.{below}
+use Rattle.rules.specs.declared.Axis.{Axis}
+use Rattle.rules.specs.declared.Axis.the-variants.{Column, Code, Frame}
 use Rattle.rules.specs.declared.Product.{Product}
 use Rattle.rules.specs.declared.Window.{Window}
+use Rattle.rules.specs.Ranges.{Span, greatest}
 use Rattle.rules.specs.Boxes.{Box}
 
 abbrev pub headerWords : ℕ
@@ -14,32 +17,30 @@ headerWords = 8
 abbrev pub productWords : ℕ
 productWords = 2
 
--- what a header adds to a bound of each axis
-abbrev pub columnOffset : ℕ
-columnOffset = 32768
+-- what a header adds to a bound of an axis, so that the least value becomes 0; and what the greatest becomes
+abbrev pub offset : Axis → ℕ
+offset axis = suc (greatest axis)
 
-abbrev pub codeOffset : ℕ
-codeOffset = 32768
-
-abbrev pub frameOffset : ℕ
-frameOffset = 32768
+abbrev pub mostWord : Axis → ℕ
+mostWord axis = greatest axis + offset axis
 
 -- a bound as a header has it, and back
-abbrev pub raised : ℕ → ℤ → ℕ
-raised offset bound = natAbs (bound +ℤ pos offset)
+abbrev pub raised : Axis → ℤ → ℕ
+raised axis bound = natAbs (bound +ℤ pos (offset axis))
 
-abbrev pub lowered : ℕ → ℕ → ℤ
-lowered offset word = pos word -ℤ pos offset
+abbrev pub lowered : Axis → ℕ → ℤ
+lowered axis word = pos word -ℤ pos (offset axis)
 
-abbrev pub headerOf : Window → ℕ → List Product → List ℕ
-headerOf w primitiveCount ps =
-    length ps
-    ∷ raised columnOffset (w .xlo)
-    ∷ raised columnOffset (w .xhi)
-    ∷ raised codeOffset (w .ylo)
-    ∷ raised codeOffset (w .yhi)
-    ∷ raised frameOffset (w .zlo)
-    ∷ raised frameOffset (w .zhi)
+-- the header of a list with so many products: that number, the window, the number of primitives
+abbrev pub headerOf : Window → ℕ → ℕ → List ℕ
+headerOf w primitiveCount products =
+    products
+    ∷ raised Column (w .xlo)
+    ∷ raised Column (w .xhi)
+    ∷ raised Code (w .ylo)
+    ∷ raised Code (w .yhi)
+    ∷ raised Frame (w .zlo)
+    ∷ raised Frame (w .zhi)
     ∷ primitiveCount
     ∷ []
 
@@ -47,7 +48,7 @@ abbrev pub wordsOf : Product → List ℕ
 wordsOf c = c .plain ∷ c .cuts ∷ []
 
 abbrev pub listOf : Window → ℕ → List Product → List ℕ
-listOf w primitiveCount ps = headerOf w primitiveCount ps ++ flatMap wordsOf ps
+listOf w primitiveCount ps = headerOf w primitiveCount (length ps) ++ flatMap wordsOf ps
 
 -- a list's words, read back
 abbrev pub word : List ℕ → ℕ → ℕ
@@ -56,15 +57,23 @@ word list i = getD list i 0
 abbrev pub productCount : List ℕ → ℕ
 productCount list = word list 0
 
+-- where the number of primitives stands, and the lo of each axis; its hi stands in the word after that
+abbrev pub primitivesWord : ℕ
+primitivesWord = 7
+
+abbrev pub boundsWord : Axis → ℕ
+boundsWord Column = 1
+boundsWord Code = 3
+boundsWord Frame = 5
+
 abbrev pub primitiveCount : List ℕ → ℕ
-primitiveCount list = word list 7
+primitiveCount list = word list primitivesWord
+
+abbrev pub axisOf : List ℕ → Axis → Span
+axisOf list axis = record { lo = lowered axis (word list (boundsWord axis)); hi = lowered axis (word list (boundsWord axis + 1)) }
 
 abbrev pub listWindow : List ℕ → Box
-listWindow list = record {
-  x = record { lo = lowered columnOffset (word list 1); hi = lowered columnOffset (word list 2) };
-  y = record { lo = lowered codeOffset (word list 3); hi = lowered codeOffset (word list 4) };
-  z = record { lo = lowered frameOffset (word list 5); hi = lowered frameOffset (word list 6) };
-}
+listWindow list = record { x = axisOf list Column; y = axisOf list Code; z = axisOf list Frame }
 
 -- the place of product k's first word
 abbrev pub placeOf : ℕ → ℕ

@@ -7,8 +7,7 @@ use lib.ListN.{length}
 use Rattle.ground.specs.Lists.{firstOf}
 use Rattle.rules.specs.declared.Product.{Product}
 use Rattle.rules.specs.declared.Refusal.{Refusal}
-use Rattle.rules.specs.declared.Window.{Window}
-use Rattle.rules.specs.Ranges.{columns, codes, frames}
+use Rattle.rules.specs.Boxes.{fullRange}
 use Rattle.rules.specs.Table.{primitives}
 use Rattle.rules.specs.Tree.{treeOf}
 use Rattle.rules.specs.Products.{products}
@@ -17,10 +16,6 @@ use Rattle.rules.specs.TextForm.{TextForm}
 use Rattle.rules.specs.ListCalls.{makeRefusal}
 use Rattle.rules.specs.TextCalls.{tableRead, formRefusal}
 use Rattle.rules.specs.Outcome.{over}
-
--- the full range as a window
-abbrev pub fullRange : Window
-fullRange = record { xlo = columns .lo; xhi = columns .hi; ylo = codes .lo; yhi = codes .hi; zlo = frames .lo; zhi = frames .hi }
 
 abbrev pub listingRoom : ℕ
 listingRoom = 8192

@@ -1,7 +1,10 @@
 -- Section 1 of docs/RULES.md: points, and the range of each axis.
+use Prim.Native.Nat.{ℕ}
 use mathlib.Core.Bool.{Bool, _&&_}
 use lib.IntN.{ℤ, pos, negsuc}
 use lib.Signed.{leZ}
+use Rattle.rules.specs.declared.Axis.{Axis}
+use Rattle.rules.specs.declared.Axis.the-variants.{Column, Code, Frame}
 
 -- the whole numbers from lo to hi, both among them
 pub record Span : Type 0 where
@@ -11,12 +14,21 @@ pub record Span : Type 0 where
 abbrev pub within : Span → ℤ → Bool
 within s v = leZ (s .lo) v && leZ v (s .hi)
 
--- -32768..32767 on each axis (`negsuc n` is -(n + 1))
+-- the greatest value of an axis
+abbrev pub greatest : Axis → ℕ
+greatest Column = 32767
+greatest Code = 32767
+greatest Frame = 32767
+
+-- its range has as many values below 0 as from 0 on (`negsuc n` is -(n + 1))
+abbrev pub range : Axis → Span
+range axis = record { lo = negsuc (greatest axis); hi = pos (greatest axis) }
+
 abbrev pub columns : Span
-columns = record { lo = negsuc 32767; hi = pos 32767 }
+columns = range Column
 
 abbrev pub codes : Span
-codes = record { lo = negsuc 32767; hi = pos 32767 }
+codes = range Code
 
 abbrev pub frames : Span
-frames = record { lo = negsuc 32767; hi = pos 32767 }
+frames = range Frame

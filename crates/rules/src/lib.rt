@@ -1,17 +1,40 @@
 // The types that the rules speak of, and their limits. What they mean stands in specs/; there is no function here.
 
-// The range of each axis.
-pub const LEAST_COLUMN: i32 = -32768;
+// The axes: sample columns, ADC codes, frame numbers.
+pub enum Axis {
+    Column,
+    Code,
+    Frame,
+}
 
+// The greatest value of each axis; there are as many below 0 as from 0 on.
 pub const GREATEST_COLUMN: i32 = 32767;
-
-pub const LEAST_CODE: i32 = -32768;
 
 pub const GREATEST_CODE: i32 = 32767;
 
-pub const LEAST_FRAME: i32 = -32768;
-
 pub const GREATEST_FRAME: i32 = 32767;
+
+pub const LEAST_COLUMN: i32 = -GREATEST_COLUMN - 1;
+
+pub const LEAST_CODE: i32 = -GREATEST_CODE - 1;
+
+pub const LEAST_FRAME: i32 = -GREATEST_FRAME - 1;
+
+// What the header of a list adds to a bound of each axis.
+pub const COLUMN_OFFSET: u64 = GREATEST_COLUMN as u64 + 1;
+
+pub const CODE_OFFSET: u64 = GREATEST_CODE as u64 + 1;
+
+pub const FRAME_OFFSET: u64 = GREATEST_FRAME as u64 + 1;
+
+// A list: the words of its header, the word that holds its number of primitives, and the words of a product.
+pub const HEADER_WORDS: usize = 8;
+
+pub const PRIMITIVES_WORD: usize = 7;
+
+pub const PRODUCT_WORDS: usize = 2;
+
+pub const MOST_PRODUCTS: usize = 65536;
 
 pub const ROW_WORDS: usize = 12;
 

@@ -11,22 +11,11 @@ ghost use mathlib.Core.Path.{_≡_};
 ghost use lib.ListN.{length};
 ghost use Rattle.ground.specs.Lists.{rulings};
 ghost use Rattle.rules.specs.Table.{wordAt, rowAt};
-ghost use Rattle.rules.specs.Refusals.{refuse};
 ghost use Rattle.rules.specs.Verdict.{rowRefusal, rowRefusalBy, childrenOf, childRefusal, tableRefusal};
 ghost use Rattle.rules.specs.TreeCalls.{TableChecked};
 ghost use Rattle.laws.specs.Checking.{checkedBy};
 ghost use Rattle.laws.specs.Sound.{SoundRow};
 ghost use Rattle.table.specs.Reading.{InTable, listed, SoundRows, timesTo, onceRule};
-
-// A refusal as the answer of a check.
-pub fn refused(number: u64, value: usize) -> Checked
-    ensures { λ r. ⌜ r ≡ checkedBy (refuse number value) ⌝ }
-{
-    Checked::Refused(Refusal {
-        number,
-        value: value as u64,
-    })
-}
 
 // A row of a known kind: fields and spare words, then children.
 fn check_known(table: &[i32], row: usize, kind: Kind) -> Checked
@@ -38,10 +27,10 @@ fn check_known(table: &[i32], row: usize, kind: Kind) -> Checked
     let right = crate::fields::fields_right(table, row, kind)
         & crate::fields::spare_right(table, row, start);
     if !right {
-        return refused(3, row);
+        return crate::refusals::refused(3, row);
     }
     if !crate::fields::children_right(table, row, kind) {
-        return refused(4, row);
+        return crate::refusals::refused(4, row);
     }
     Checked::Sound
 }
@@ -53,7 +42,7 @@ fn check_row(table: &[i32], row: usize) -> Checked
 {
     let named = crate::decode::kind_of(crate::decode::word(table, row, 0));
     match named {
-        Named::Unknown => refused(2, row),
+        Named::Unknown => crate::refusals::refused(2, row),
         Named::Known(kind) => check_known(table, row, kind),
     }
 }
@@ -132,7 +121,7 @@ fn check_once(times: &[u8; 127], last: usize) -> Checked
     let mut row: usize = 0;
     while row < last {
         if times[row] != 1 {
-            return refused(5, row);
+            return crate::refusals::refused(5, row);
         }
         row += 1;
     }
@@ -155,7 +144,7 @@ pub fn check(table: &[i32]) -> Checked
     if (words % rules::ROW_WORDS != 0)
         | ((words == 0) | (rules::MOST_ROWS * rules::ROW_WORDS < words))
     {
-        return refused(1, words);
+        return crate::refusals::refused(1, words);
     }
     let rows = words / rules::ROW_WORDS;
     let checked = check_rows(table, rows);

@@ -2,14 +2,18 @@
 mod checking;
 mod decode;
 mod fields;
+mod refusals;
 
 pub use checking::check;
 pub use checking::check_table;
-pub use checking::refused;
 pub use decode::kind_of;
 pub use decode::read_row;
 pub use decode::word;
 pub use fields::named_words;
+pub use refusals::first_of;
+pub use refusals::refuse_if;
+pub use refusals::refuse_unless;
+pub use refusals::refused;
 use rules::Kind;
 
 // The kind that a word names.

@@ -51,7 +51,7 @@ fn sound_point(table: &[i32], p: Point) -> Located
     requires { ⌜ tableRefusal (now table) ≡ none ⌝ }
     ensures { λ r. ⌜ TreeLocated (now (table .entry)) p r ⌝ }
 {
-    let placed = frame::check_point(frame::everywhere(), p);
+    let placed = window::check_point(window::everywhere(), p);
     match placed {
         Checked::Refused(refusal) => Located::Refused(refusal),
         Checked::Sound => {

@@ -23,11 +23,11 @@ columns-told c =
 refused-requires : tie.Need-refused-requires
 refused-requires c κs = search needs
 
-frame-told : (c : tie.After-frame-right) → c .frame-right .result ≡ within frames (c .before .before .before .before .before .before .args .place .frame)
+frame-told : (c : tie.After-in-range) → c .in-range .result ≡ within frames (c .before .before .before .before .before .before .args .place .frame)
 frame-told c =
     let s = c .before .before .before .before .before .before in
     let f : SFits w32 (s .args .place .frame) = search needs in
-    c .frame-right .ensures ∙ ap (within frames) (toZ-ofZ w32 (s .args .place .frame) f)
+    c .in-range .ensures ∙ ap (within frames) (toZ-ofZ w32 (s .args .place .frame) f)
 
 returns : tie.Need-returns
 returns c = let s = c .before .before in c .refused .ensures ∙ ap checkedBy (sym (length-wrong (s .args .samples .now) (s .args .place) (c .before .if1 .taken)))
@@ -44,8 +44,8 @@ returns-2 c =
     let s = d .before .before .before in
     c .refused2 .ensures ∙ ap checkedBy (sym (columns-wrong (s .args .samples .now) (s .args .place) (d .before .before .if1 .left) (sym (columns-told d) ∙ not-true _ (c .before .if2 .taken))))
 
-frame-right-requires : tie.Need-frame-right-requires
-frame-right-requires c κs = search needs
+in-range-requires : tie.Need-in-range-requires
+in-range-requires c κs = search needs
 
 refused-requires-3 : tie.Need-refused-requires-3
 refused-requires-3 c κs = search needs
@@ -74,7 +74,7 @@ check-frame-spec =
     columns-right-requires
     refused-requires-2
     returns-2
-    frame-right-requires
+    in-range-requires
     refused-requires-3
     returns-3
     returns-4)

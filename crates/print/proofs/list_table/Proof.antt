@@ -6,7 +6,7 @@ use lib.IntN.{ℤ}
 use lib.ListN.{length, replicate, length-replicate}
 use Rattle.rules.specs.declared.Written.{Written}
 use Rattle.rules.specs.ListCalls.{ListMade}
-use Rattle.rules.specs.Listing.{fullRange}
+use Rattle.rules.specs.Boxes.{fullRange}
 use Rattle.number.proofs.Writing.{put-same}
 use Rattle.print.proofs.Made.{made-as, refused-listing, made-listing, made-whole}
 use Rattle.print.proofs.list_table.Statement.{statement}
@@ -28,10 +28,10 @@ module _ (m : tie.After-make-list) where
   list = m .make-list .last .1 .1 .0
 
   made : {s : Written} → m .make-list .result ≡ s → ListMade table fullRange zeros list s
-  made e = made-as (m .before .before .full-range .ensures) e (m .make-list .ensures)
+  made e = made-as (m .before .before .everywhere .ensures) e (m .make-list .ensures)
 
-full-range-requires : tie.Need-full-range-requires
-full-range-requires c κs = search needs
+everywhere-requires : tie.Need-everywhere-requires
+everywhere-requires c κs = search needs
 
 slice-aggregate-make-list : tie.Need-slice-aggregate-make-list
 slice-aggregate-make-list c = search needs
@@ -78,7 +78,7 @@ pub list-table-spec : {M : Type 1} → statement M
 list-table-spec =
     tie.close
     (tie.spec
-    full-range-requires
+    everywhere-requires
     slice-aggregate-make-list
     make-list-requires
     enum-known-made

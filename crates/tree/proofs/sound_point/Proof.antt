@@ -1,7 +1,8 @@
 use mathlib.Core.Option.{none}
 use mathlib.Core.Path.{_≡_, sym, ap, _∙_}
 use borrow.Author.Needs.{needs}
-use Rattle.rules.specs.Boxes.{Box, everywhere}
+use Rattle.rules.specs.declared.Window.{Window}
+use Rattle.rules.specs.Boxes.{everywhere, windowBox}
 use Rattle.rules.specs.TreeCalls.{pointRefusal}
 use Rattle.laws.proofs.Telling.{went-on, stopped, point-holds}
 use Rattle.laws.proofs.Soundness.{table-sound}
@@ -12,7 +13,7 @@ use Rattle.tree.proofs.sound_point.Tie as tie
 
 -- what the check of the point came to
 placed : (c : tie.After-check-point) → c .check-point .result ≡ checkedBy (pointRefusal everywhere (c .before .before .args .p))
-placed c = c .check-point .ensures ∙ ap (λ (b : Box). checkedBy (pointRefusal b (c .before .before .args .p))) (c .before .everywhere .ensures)
+placed c = c .check-point .ensures ∙ ap (λ (w : Window). checkedBy (pointRefusal (windowBox w) (c .before .before .args .p))) (c .before .everywhere .ensures)
 
 in-range : (c : tie.After-enum-told) → pointRefusal everywhere (c .before .before .before .before .args .p) ≡ none
 in-range c = went-on (pointRefusal everywhere (c .before .before .before .before .args .p)) (sym (c .enum-told .given .1) ∙ placed (c .before .before))

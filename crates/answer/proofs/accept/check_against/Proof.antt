@@ -6,7 +6,7 @@ use Rattle.rules.specs.Table.{primitives}
 use Rattle.laws.proofs.Telling.{went-on, stopped}
 use Rattle.laws.proofs.SoundLists.{list-sound}
 use Rattle.answer.proofs.Calls.{checked-now, checked-later}
-use Rattle.answer.proofs.Checks.{alone}
+use Rattle.laws.proofs.Telling.{alone}
 use Rattle.answer.proofs.accept.check_against.Statement.{statement}
 use Rattle.answer.proofs.accept.check_against.Tie as tie
 

@@ -1,59 +1,27 @@
-use Prim.Native.Nat.{_+_}
-use mathlib.Core.Bool.{_||_}
+use native.Mathlib.Omega.{arith}
+use mathlib.Core.Path.{_∙_}
 use borrow.Author.Needs.{needs}
-use lib.Dec.{ltb}
-use Rattle.rules.specs.ListWords.{word}
-use Rattle.rules.specs.Refusals.{refuseIf}
-use Rattle.answer.proofs.Checks.{one-two}
+use Rattle.ground.specs.Lists.{firstOf}
+use Rattle.rules.specs.ListFaults.{wordsRefusals}
+use Rattle.laws.specs.Checking.{checkedBy}
+use Rattle.laws.proofs.Axes.{bounds-early}
 use Rattle.answer.proofs.accept.check_bounds.Statement.{statement}
 use Rattle.answer.proofs.accept.check_bounds.Tie as tie
 
-mul-lo : tie.Need-mul-lo
-mul-lo c = search needs
+bounds-word-requires : tie.Need-bounds-word-requires
+bounds-word-requires c κs = search needs
 
-shared-slice-read-lo : tie.Need-shared-slice-read-lo
-shared-slice-read-lo c = search needs
+most-word-requires : tie.Need-most-word-requires
+most-word-requires c κs = search needs
 
-add-hi : tie.Need-add-hi
-add-hi c = search needs
-
-mul-hi : tie.Need-mul-hi
-mul-hi c = search needs
-
-shared-slice-read-hi : tie.Need-shared-slice-read-hi
-shared-slice-read-hi c = search needs
-
-refuse-if-requires : tie.Need-refuse-if-requires
-refuse-if-requires c κs = search needs
-
-add-refuse-if : tie.Need-add-refuse-if
-add-refuse-if c = search needs
-
-refuse-if-requires-2 : tie.Need-refuse-if-requires-2
-refuse-if-requires-2 c κs = search needs
-
-first-of-requires : tie.Need-first-of-requires
-first-of-requires c κs = search needs
+check-words-requires : tie.Need-check-words-requires
+check-words-requires c κs = let s = c .before .before .before in omega (arith, c .before .bounds-word .ensures, bounds-early (s .args .axis), s .pre)
 
 returns : tie.Need-returns
 returns c =
-    let s = c .before .before .before .before .before .before in
-    let lo = word (s .args .list .now) (s .args .i) in
-    let hi = word (s .args .list .now) (s .args .i + 1) in
-    one-two (refuseIf (ltb (s .args .most) lo) 9 (s .args .i)) (refuseIf (ltb (s .args .most) hi || ltb hi lo) 9 (s .args .i + 1))
-    (c .before .before .refuse-if .ensures) (c .before .refuse-if2 .ensures) (c .first-of .ensures)
+    let m = c .before in
+    let b = m .before in
+    c .check-words .ensures ∙ (λ i. checkedBy (firstOf (wordsRefusals (b .before .before .args .list .now) (b .bounds-word .ensures i) (m .most-word .ensures i))))
 
 pub check-bounds-spec : {M : Type 1} → statement M
-check-bounds-spec =
-    tie.close
-    (tie.spec
-    mul-lo
-    shared-slice-read-lo
-    add-hi
-    mul-hi
-    shared-slice-read-hi
-    refuse-if-requires
-    add-refuse-if
-    refuse-if-requires-2
-    first-of-requires
-    returns)
+check-bounds-spec = tie.close (tie.spec bounds-word-requires most-word-requires check-words-requires returns)

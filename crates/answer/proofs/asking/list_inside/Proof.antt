@@ -12,7 +12,7 @@ holders-requires : tie.Need-holders-requires
 holders-requires c κs = let s = c .before in (table-sound (s .args .table .now) (s .pre .0 .table), s .pre .1)
 
 suits-some-requires : tie.Need-suits-some-requires
-suits-some-requires c κs = let s = c .before .before in list-sound (s .args .list .now) (s .pre .0 .listed)
+suits-some-requires c κs = let s = c .before .before in list-sound (s .args .list .now) (s .pre .0 .list-right)
 
 returns : tie.Need-returns
 returns c =
@@ -21,7 +21,7 @@ returns c =
     let list = s .args .list .now in
     c .suits-some .ensures
     ∙ ap (suitsSome list) (c .before .holders .ensures)
-    ∙ sym (list-by-set (primitives t) (s .args .p) list (list-sound list (s .pre .0 .listed)) (same-counts t list (s .pre .0)))
+    ∙ sym (list-by-set (primitives t) (s .args .p) list (list-sound list (s .pre .0 .list-right)) (same-counts t list (s .pre .0)))
 
 pub list-inside-spec : {M : Type 1} → statement M
 list-inside-spec = tie.close (tie.spec holders-requires suits-some-requires returns)

@@ -24,7 +24,7 @@ in-window c =
     went-on (pointRefusal (listWindow (s .args .list .now)) (s .args .p)) (sym (c .enum-told .given .1) ∙ placed (c .before .before))
 
 window-of-requires : tie.Need-window-of-requires
-window-of-requires c κs = list-sound (c .before .args .list .now) (c .before .pre .listed)
+window-of-requires c κs = list-sound (c .before .args .list .now) (c .before .pre .list-right)
 
 check-point-requires : tie.Need-check-point-requires
 check-point-requires c κs = search needs
@@ -39,7 +39,7 @@ list-inside-requires : tie.Need-list-inside-requires
 list-inside-requires c κs =
     let s = c .before .before .before .before .before in
     let list = s .args .list .now in
-    (s .pre, list-window-in-range list (list-sound list (s .pre .listed) .header) (s .args .p) (point-holds (listWindow list) (s .args .p) (in-window c)))
+    (s .pre, list-window-in-range list (list-sound list (s .pre .list-right) .header) (s .args .p) (point-holds (listWindow list) (s .args .p) (in-window c)))
 
 returns : tie.Need-returns
 returns c =

@@ -17,7 +17,7 @@ placed c =
     c .check-leaves .ensures ∙ ap (λ (b : Box). checkedBy (leavesRefusal b (s .args .samples .now) (s .args .place))) (c .before .window-of .ensures)
 
 window-of-requires : tie.Need-window-of-requires
-window-of-requires c κs = list-sound (c .before .args .list .now) (c .before .pre .0 .listed)
+window-of-requires c κs = list-sound (c .before .args .list .now) (c .before .pre .0 .list-right)
 
 check-leaves-requires : tie.Need-check-leaves-requires
 check-leaves-requires c κs = c .before .before .pre .1
