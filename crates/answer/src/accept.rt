@@ -1,13 +1,12 @@
 // Accepting a list: its check word by word, and that it was made for as many primitives as the table has.
 use rules::Axis;
 use rules::Checked;
-use rules::Row;
 ghost use Prim.Native.Nat.{suc, _+_, _*_, _^_, _≤_, _<_};
 ghost use mathlib.Core.List.{[], _∷_};
 ghost use mathlib.Core.Path.{_≡_};
 ghost use lib.ListN.{length};
 ghost use Rattle.ground.specs.Lists.{firstOf, rulings};
-ghost use Rattle.rules.specs.Table.{rowCount, primitivesBefore, primitives};
+ghost use Rattle.rules.specs.Table.{primitives};
 ghost use Rattle.rules.specs.ListWords.{headerWords, primitivesWord, primitiveCount, placeOf};
 ghost use Rattle.rules.specs.ListFaults.{countRight, wordsRefusals, boundsRefusals, primitivesRight, productRefusals, headerRefusals, listRefusal, primitivesRefusal};
 ghost use Rattle.rules.specs.ListCalls.{acceptRefusal};
@@ -133,43 +132,13 @@ pub fn check_list(list: &[u64]) -> Checked
     }
 }
 
-// One row more: how many primitives there are so far.
-fn count_row(table: &[i32], row: usize, count: usize) -> usize
-    requires { ⌜ Sound (now table) ⌝ }
-    requires { ⌜ row < rowCount (now table) ⌝ }
-    requires { ⌜ count ≡ length (primitivesBefore (now table) row) ⌝ }
-    ensures { λ r. ⌜ r ≡ length (primitivesBefore (now (table .entry)) (row + 1)) ⌝ }
-{
-    let reads = table::read_row(table, row);
-    match reads {
-        Row::Solid(_) => count + 1,
-        Row::Union(_, _) => count,
-        Row::Inter(_, _) => count,
-        Row::Diff(_, _) => count,
-    }
-}
-
-fn count_primitives(table: &[i32]) -> usize
-    requires { ⌜ Sound (now table) ⌝ }
-    ensures { λ r. ⌜ r ≡ length (primitives (now (table .entry))) ⌝ }
-{
-    let rows = table.len() / rules::ROW_WORDS;
-    let mut count: usize = 0;
-    let mut row: usize = 0;
-    while row < rows {
-        count = count_row(table, row, count);
-        row += 1;
-    }
-    count
-}
-
 // The list has as many primitives as the table.
 fn check_counts(table: &[i32], list: &[u64]) -> Checked
     requires { ⌜ Sound (now table) ⌝ }
     requires { ⌜ headerWords ≤ length (now list) ⌝ }
     ensures { λ r. ⌜ r ≡ checkedBy (primitivesRefusal (primitives (now (table .entry))) (now (list .entry))) ⌝ }
 {
-    let primitives = count_primitives(table);
+    let primitives = table::primitive_count(table);
     table::refuse_if(
         list[rules::PRIMITIVES_WORD] != primitives as u64,
         11,

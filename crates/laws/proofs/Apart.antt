@@ -1,5 +1,5 @@
 -- The primitives of a sound table: the tree of a row holds none twice and only those up to the row, and there are at most 64. Assumes nothing.
-use Prim.Native.Nat.{ℕ, zero, suc, _+_, _-_, _*_, _^_, _≤_, _<_}
+use Prim.Native.Nat.{ℕ, zero, suc, _+_, _-_, _*_, _/_, _^_, _≤_, _<_}
 use native.Mathlib.Nat.{le-refl, le-trans, le-of-suc-le-suc, eq-or-lt-of-le, lt-of-lt-of-le, one-mul, zero-add}
 use native.Mathlib.Numerals.{add-one}
 use native.Mathlib.Omega.{arith}
@@ -8,7 +8,7 @@ use mathlib.Core.List.{List, [], _∷_, _++_, flatMap}
 use mathlib.Core.Logic.{_⊎_, inl, inr, ⊎-elim}
 use mathlib.Core.Option.{some}
 use mathlib.Core.Path.{_≡_, refl, sym, ap, ap₂, subst, _∙_}
-use borrow.Author.Tests.{eqb-true, eqb-false, eq-eqb, ltb-true, ltb-false}
+use borrow.Author.Tests.{eqb-true, eqb-false, eq-eqb, ltb-true, ltb-false, lt-ltb, le-ltb}
 use lib.Bits.{bitAnd, bitOr, and-comm, or-lt, and-shifted}
 use lib.Dec.{eqb, ltb}
 use lib.IntN.{ℤ}
@@ -78,10 +78,16 @@ count-step m (x ∷ xs) = go (ltb x (suc m)) (ltb x m) (eqb m x) refl refl refl 
     go false false true a b c ih = absurd (omega (arith, ltb-false x (suc m) a, eqb-true m x c))
     go false false false a b c ih = ih
 
--- a list that names each number below m has m elements or more that are below m
-names-most : (xs : List ℕ) (m : ℕ) → ((i : ℕ) → i < m → 1 ≤ countIf (eqb i) xs) → m ≤ countIf (λ x. ltb x m) xs
-names-most xs zero h = omega arith
-names-most xs (suc m) h = rw (count-step m xs) (omega (arith, names-most xs m (λ i l. h i (omega arith)), h m (omega arith)))
+-- no number is below 0
+none-below : (xs : List ℕ) → countIf (λ x. ltb x 0) xs ≡ 0
+unfolding countIf
+none-below [] = refl
+none-below (x ∷ xs) = rw (le-ltb x 0 (omega arith)) (none-below xs)
+
+-- a list that names each number below m once has m elements that are below m
+names-exact : (xs : List ℕ) (m : ℕ) → ((i : ℕ) → i < m → countIf (eqb i) xs ≡ 1) → countIf (λ x. ltb x m) xs ≡ m
+names-exact xs zero h = none-below xs
+names-exact xs (suc m) h = rw (count-step m xs) (omega (arith, names-exact xs m (λ i l. h i (omega arith)), h m (omega arith)))
 
 -- how often two children are a row
 module _ (a b : ℕ) where
@@ -318,8 +324,36 @@ module _ (t : List ℤ) (S : Sound t) where
       go (leaf p e w) h = omega (arith, leaf-next row e, next-named row, ap (λ x. length (childrenOf x)) e)
       go (node a b la lb c e w) h = omega (arith, next-before row, ap (λ (ps : List Primitive). length ps) e, next-named row, ap (λ (is : List ℕ). length is) c)
 
-  -- each row but the last is named, so there are at least as many children as such rows
+  -- every child is a row but the last
+  abbrev isChild : ℕ → Bool
+  isChild i = ltb i (rowCount t - 1)
+
+  both-children : (a b : ℕ) → a < rowCount t - 1 → b < rowCount t - 1 → countIf isChild (a ∷ b ∷ []) ≡ 2
+  unfolding countIf
+  both-children a b la lb = rw (lt-ltb a (rowCount t - 1) la, lt-ltb b (rowCount t - 1) lb) refl
+
+  all-children : (row : ℕ) → row ≤ rowCount t → countIf isChild (named row) ≡ length (named row)
+  unfolding from flatMap countIf
+  all-children zero l = refl
+  all-children (suc row) l = next ∙ go (seen row l) (all-children row (omega arith)) ∙ sym (next-named row)
+    where
+      next : countIf isChild (named (suc row)) ≡ countIf isChild (named row) + countIf isChild (childrenOf (rowAt t row))
+      next = ap (countIf isChild) (next-row (λ r. childrenOf (rowAt t r)) row) ∙ count-append isChild (named row) (childrenOf (rowAt t row))
+
+      none-named : (is : List ℕ) → is ≡ [] → countIf isChild is ≡ length is
+      none-named is e = ap (countIf isChild) e ∙ ap (λ (js : List ℕ). length js) (sym e)
+
+      go : Seen row → countIf isChild (named row) ≡ length (named row)
+          → countIf isChild (named row) + countIf isChild (childrenOf (rowAt t row)) ≡ length (named row) + length (childrenOf (rowAt t row))
+      go (leaf p e w) h = ap₂ _+_ h (none-named (childrenOf (rowAt t row)) (ap childrenOf e))
+      go (node a b la lb c e w) h =
+          omega (arith, h, ap (countIf isChild) c, both-children a b (omega arith) (omega arith), ap (λ (is : List ℕ). length is) c)
+
+  -- each of them once, so half the rows, rounded up, are primitives
+  pub half-primitives : length (primitives t) ≡ (rowCount t + 1) / 2
+  half-primitives =
+      let n = names-exact (named (rowCount t)) (rowCount t - 1) times-once in
+      omega (arith, n, all-children (rowCount t) (le-refl (rowCount t)), two-each (rowCount t) (le-refl (rowCount t)), S .some-row)
+
   pub few-primitives : length (primitives t) ≤ 64
-  few-primitives =
-      let n = names-most (named (rowCount t)) (rowCount t - 1) (λ i l. omega (arith, times-once i l)) in
-      omega (arith, n, count-most (λ x. ltb x (rowCount t - 1)) (named (rowCount t)), two-each (rowCount t) (le-refl (rowCount t)), S .not-over)
+  few-primitives = omega (arith, half-primitives, S .not-over)

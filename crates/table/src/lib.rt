@@ -3,6 +3,7 @@ mod checking;
 mod decode;
 mod fields;
 mod refusals;
+mod size;
 
 pub use checking::check;
 pub use checking::check_table;
@@ -15,6 +16,9 @@ pub use refusals::refuse_if;
 pub use refusals::refuse_unless;
 pub use refusals::refused;
 use rules::Kind;
+pub use size::primitive_count;
+pub use size::root;
+pub use size::row_count;
 
 // The kind that a word names.
 pub enum Named {

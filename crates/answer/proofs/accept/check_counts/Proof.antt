@@ -9,8 +9,8 @@ use Rattle.answer.proofs.Checks.{if-not}
 use Rattle.answer.proofs.accept.check_counts.Statement.{statement}
 use Rattle.answer.proofs.accept.check_counts.Tie as tie
 
-count-primitives-requires : tie.Need-count-primitives-requires
-count-primitives-requires c κs = search needs
+primitive-count-requires : tie.Need-primitive-count-requires
+primitive-count-requires c κs = search needs
 
 shared-slice-read-refuse-if : tie.Need-shared-slice-read-refuse-if
 shared-slice-read-refuse-if c = search needs
@@ -24,9 +24,9 @@ returns c =
     let s = n .before .before in
     let w = primitiveCount (s .args .list .now) in
     c .refuse-if .ensures
-    ∙ ap checkedBy (if-not (eqb w (n .count-primitives .result)) 11 (n .count-primitives .result) ∙ ap (λ (k : ℕ). refuseUnless (eqb w k) 11 k) (n .count-primitives .ensures))
+    ∙ ap checkedBy (if-not (eqb w (n .primitive-count .result)) 11 (n .primitive-count .result) ∙ ap (λ (k : ℕ). refuseUnless (eqb w k) 11 k) (n .primitive-count .ensures))
 
 pub check-counts-spec : {M : Type 1} → statement M
 check-counts-spec =
     tie.close
-    (tie.spec count-primitives-requires shared-slice-read-refuse-if refuse-if-requires returns)
+    (tie.spec primitive-count-requires shared-slice-read-refuse-if refuse-if-requires returns)
