@@ -1,17 +1,15 @@
--- What a check and the calls over a list answer, from the rules that were kept or broken on the way. Assumes nothing.
+-- What the calls over a list answer, from the rules that were kept or broken on the way. Assumes nothing.
 use Prim.Native.Nat.{ℕ}
 use mathlib.Core.Bool.{Bool, true, false}
-use mathlib.Core.List.{List, [], _∷_, _++_, flatMap}
+use mathlib.Core.List.{List, [], _∷_}
 use mathlib.Core.Option.{Option, none, some}
 use mathlib.Core.Path.{_≡_, sym, ap, _∙_}
 use borrow.Author.Tests.{eqb-true}
-use lib.Dec.{eqb, ltb}
+use lib.Dec.{eqb}
 use lib.IntN.{ℤ}
 use lib.ListN.{length}
-use Rattle.ground.specs.Lists.{below, orElse, firstOf, rulings}
-use Rattle.ground.proofs.Counting.{first-kept, first-append, first-rulings}
-use Rattle.rules.specs.declared.Checked.{Checked}
-use Rattle.rules.specs.declared.Checked.the-variants as checked
+use Rattle.ground.specs.Lists.{firstOf}
+use Rattle.ground.proofs.Counting.{first-kept}
 use Rattle.rules.specs.declared.Located.{Located}
 use Rattle.rules.specs.declared.Located.the-variants as located
 use Rattle.rules.specs.declared.Place.{Place}
@@ -21,58 +19,18 @@ use Rattle.rules.specs.declared.Searched.{Searched}
 use Rattle.rules.specs.declared.Searched.the-variants as searched
 use Rattle.rules.specs.Frame.{frameRefusal, leavesRefusal, sampleInside, firstInside, insideCount}
 use Rattle.rules.specs.ListCalls.{acceptRefusal, ListLocated, ListSearched}
-use Rattle.rules.specs.ListFaults.{headerRefusals, productRefusals, listRefusal, primitivesRefusal}
+use Rattle.rules.specs.ListFaults.{listRefusal, primitivesRefusal}
 use Rattle.rules.specs.ListInside.{insideList}
-use Rattle.rules.specs.ListWords.{headerWords, listWindow, productCount, primitiveCount}
-use Rattle.rules.specs.Refusals.{refuse, refuseIf}
+use Rattle.rules.specs.ListWords.{listWindow, primitiveCount}
 use Rattle.rules.specs.Table.{primitives}
 use Rattle.rules.specs.Told.{Tale, Told, fine, refused, tell, toldLocated, toldSearched}
 use Rattle.rules.specs.TreeCalls.{pointRefusal, pointTale, searchTale}
 use Rattle.rules.specs.Verdict.{tableRefusal}
-use Rattle.laws.specs.Checking.{checkedBy}
 use Rattle.laws.proofs.Telling.{told-now, told-later, told-fine}
 use Rattle.laws.proofs.Soundness.{unless-kept}
 use Rattle.frame.specs.declared.Tally.{Tally}
 use Rattle.frame.specs.Tallies.{seen, Tallied}
 use Rattle.answer.specs.Checks.{Accepted}
-
--- ---- checks by the first rule that is broken
-
-module _ (x : Option Refusal) (xs : List (Option Refusal)) where
-  pub checked-now : {r : Refusal} → x ≡ some r → checked.Refused r ≡ checkedBy (firstOf (x ∷ xs))
-  unfolding firstOf
-  checked-now h = rw h
-
-  pub checked-later : x ≡ none → {a : Checked} → a ≡ checkedBy (firstOf xs) → a ≡ checkedBy (firstOf (x ∷ xs))
-  unfolding firstOf
-  checked-later h e = rw h e
-
--- ---- the check of a list
-
-module _ (list : List ℕ) where
-  abbrev others : List (Option Refusal)
-  others = headerRefusals list ++ flatMap (productRefusals list) (below (productCount list))
-
-  pub too-short : ltb (length list) headerWords ≡ true → checkedBy (refuse 9 (length list)) ≡ checkedBy (listRefusal list)
-  unfolding listRefusal firstOf
-  too-short h = rw h
-
-  module _ (long : ltb (length list) headerWords ≡ false) where
-    go-on : {a : Checked} → a ≡ checkedBy (firstOf others) → a ≡ checkedBy (listRefusal list)
-    unfolding listRefusal
-    go-on = checked-later (refuseIf (ltb (length list) headerWords) 9 (length list)) others (ap (λ (b : Bool). refuseIf b 9 (length list)) long)
-
-    pub header-refused : {r : Refusal} → firstOf (headerRefusals list) ≡ some r → checked.Refused r ≡ checkedBy (listRefusal list)
-    header-refused h =
-        go-on (sym (ap checkedBy (first-append (headerRefusals list) (flatMap (productRefusals list) (below (productCount list)))
-        ∙ ap (λ (x : Option Refusal). orElse x (firstOf (flatMap (productRefusals list) (below (productCount list))))) h)))
-
-    pub header-passed : firstOf (headerRefusals list) ≡ none → {a : Checked}
-        → a ≡ checkedBy (rulings (λ k. firstOf (productRefusals list k)) 0 (productCount list)) → a ≡ checkedBy (listRefusal list)
-    header-passed h e =
-        let products = flatMap (productRefusals list) (below (productCount list)) in
-        go-on (e ∙ sym (ap checkedBy (first-append (headerRefusals list) products
-        ∙ ap (λ (x : Option Refusal). orElse x (firstOf products)) h ∙ first-rulings (productRefusals list) (productCount list))))
 
 -- ---- table and list together
 

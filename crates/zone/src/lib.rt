@@ -60,7 +60,7 @@ pub fn list_search(table: &[i32], list: &[u64], samples: &[i16], place: Place) -
 pub fn read_text(text: &[u8], table: &mut [i32]) -> Written
     ensures { λ r. ⌜ TextRead (now (text .entry)) (now (table .entry)) (now (table .exit)) r ⌝ }
 {
-    text::read_text(text, table)
+    reading::read_text(text, table)
 }
 
 // Writes the text of a table and says how many bytes it took; the bytes beyond stay. Refusals: the table's; 8 with the bytes needed. No text is
@@ -68,5 +68,5 @@ pub fn read_text(text: &[u8], table: &mut [i32]) -> Written
 pub fn write_text(table: &[i32], text: &mut [u8]) -> Written
     ensures { λ r. ⌜ TextWritten (now (table .entry)) (now (text .entry)) (now (text .exit)) r ⌝ }
 {
-    text::write_text(table, text)
+    writing::write_text(table, text)
 }

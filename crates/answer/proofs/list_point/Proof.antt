@@ -1,0 +1,39 @@
+use mathlib.Core.Path.{sym, _∙_}
+use borrow.Author.Needs.{needs}
+use Rattle.rules.specs.ListCalls.{acceptRefusal}
+use Rattle.laws.proofs.Telling.{went-on, stopped}
+use Rattle.answer.proofs.Calls.{accepted, point-refused}
+use Rattle.answer.proofs.list_point.Statement.{statement}
+use Rattle.answer.proofs.list_point.Tie as tie
+
+check-both-requires : tie.Need-check-both-requires
+check-both-requires c κs = search needs
+
+enum-known-checked : tie.Need-enum-known-checked
+enum-known-checked c = search needs
+
+enum-told : tie.Need-enum-told
+enum-told c = search needs
+
+point-in-requires : tie.Need-point-in-requires
+point-in-requires c κs =
+    let s = c .before .before .before .before in
+    let t = s .args .table .now in
+    let list = s .args .list .now in
+    accepted t list (went-on (acceptRefusal t list) (sym (c .enum-told .given .1) ∙ c .before .before .check-both .ensures))
+
+returns : tie.Need-returns
+returns c =
+    let d = c .before .before .before in
+    let s = d .before .before in
+    let t = s .args .table .now in
+    let list = s .args .list .now in
+    point-refused t list (s .args .p) (stopped (acceptRefusal t list) (sym (c .before .checked .given .1) ∙ d .check-both .ensures))
+
+returns-2 : tie.Need-returns-2
+returns-2 c = search needs
+
+pub list-point-spec : {M : Type 1} → statement M
+list-point-spec =
+    tie.close
+    (tie.spec check-both-requires enum-known-checked enum-told point-in-requires returns returns-2)

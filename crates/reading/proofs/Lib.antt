@@ -1,0 +1,4 @@
+pub mod LineFaults
+pub mod ReadCalls
+pub mod ReadPieces
+pub mod ReadTables

@@ -1,0 +1,32 @@
+use native.Mathlib.Omega.{arith}
+use mathlib.Core.Path.{refl}
+use borrow.Author.Needs.{needs}
+use Rattle.laws.proofs.Soundness.{table-sound}
+use Rattle.number.proofs.Writing.{put-same, put-size, put-join}
+use Rattle.writing.proofs.Written.{text-parts, text-size}
+use Rattle.writing.proofs.put_text.Statement.{statement}
+use Rattle.writing.proofs.put_text.Tie as tie
+
+put-header-requires : tie.Need-put-header-requires
+put-header-requires c κs =
+    let s = c .before .before in
+    let t = s .args .table .now in
+    (table-sound t (s .pre .0) .not-over, omega (arith, s .pre .1, text-size t (s .pre .0)))
+
+put-rows-requires : tie.Need-put-rows-requires
+put-rows-requires c κs =
+    let s = c .before .before .before .before .before .before in
+    let header = c .before .before .before .put-header .ensures in
+    ((s .pre .0, refl), omega (arith, s .pre .1, text-size (s .args .table .now) (s .pre .0), header .end, put-size header))
+
+same-length : tie.Need-same-length
+same-length c = search needs
+
+returns : tie.Need-returns
+returns c =
+    let s = c .before .before .before .before .before .before .before .before .before in
+    let header = c .before .before .before .before .before .before .put-header .ensures in
+    put-same (text-parts (s .args .table .now) (s .pre .0)) (put-join header (c .before .before .put-rows .ensures))
+
+pub put-text-spec : {M : Type 1} → statement M
+put-text-spec = tie.close (tie.spec put-header-requires put-rows-requires same-length returns)
