@@ -101,16 +101,16 @@ fn check_products(list: &[u64], products: usize, all: u64) -> Checked
     requires { ⌜ suc all ≡ 2 ^ primitiveCount (now list) ⌝ }
     ensures { λ r. ⌜ r ≡ checkedBy (rulings (λ k. firstOf (productRefusals (now (list .entry)) k)) 0 products) ⌝ }
 {
-    let mut n: usize = 1;
-    while n <= products {
-        let checked = check_product(list, n - 1, all);
+    let mut k: usize = 0;
+    while k < products {
+        let checked = check_product(list, k, all);
         match checked {
             Checked::Refused(refusal) => {
                 return Checked::Refused(refusal);
             }
             Checked::Sound => {}
         }
-        n += 1;
+        k += 1;
     }
     Checked::Sound
 }

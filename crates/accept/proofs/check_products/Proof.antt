@@ -1,4 +1,4 @@
-use Prim.Native.Nat.{ℕ, _≤_, _<_, _+_, _-_}
+use Prim.Native.Nat.{ℕ, _≤_, _-_}
 use native.Mathlib.Omega.{arith}
 use mathlib.Core.List.{List}
 use mathlib.Core.Option.{Option}
@@ -18,16 +18,13 @@ abbrev rule : List ℕ → ℕ → Option Refusal
 rule list k = firstOf (productRefusals list k)
 
 abbrev Inv-loop : tie.InvT-loop
-Inv-loop list products all n₀ n = (1 ≤ n) × (n ≤ products + 1) × (rulings (rule list) 0 products ≡ rulings (rule list) (n - 1) products)
+Inv-loop list products all k₀ k = (k ≤ products) × (rulings (rule list) 0 products ≡ rulings (rule list) k products)
 
 abbrev μ-loop : tie.MeasureT-loop
-μ-loop list products all n₀ n = products + 1 - n
+μ-loop list products all k₀ k = products - k
 
 loop-holds : tie.Need-loop-holds Inv-loop μ-loop
-loop-holds c = (omega arith, omega arith, refl)
-
-sub-check-product : tie.Need-sub-check-product Inv-loop μ-loop
-sub-check-product c = omega (arith, c .before .loop .inv .0)
+loop-holds c = (omega arith, refl)
 
 check-product-requires : tie.Need-check-product-requires Inv-loop μ-loop
 check-product-requires c κs = let s = c .before .before .before in (omega (arith, s .pre .0, c .loop-test .taken), s .pre .1)
@@ -41,16 +38,14 @@ returns c =
     let l = d .before .before in
     let s = l .before .before in
     let r = rule (s .args .list .now) in
-    let k = l .loop .n - 1 in
-    let here : k < s .args .products = omega (arith, l .loop .inv .0, d .before .loop-test .taken) in
-    let met = stopped (r k) (sym (c .before .checked .given .1) ∙ d .check-product .ensures) in
-    sym (ap checkedBy (l .loop .inv .2 ∙ broken r k (s .args .products) here met))
+    let met = stopped (r (l .loop .k)) (sym (c .before .checked .given .1) ∙ d .check-product .ensures) in
+    sym (ap checkedBy (l .loop .inv .1 ∙ broken r (l .loop .k) (s .args .products) (d .before .loop-test .taken) met))
 
 enum-told : tie.Need-enum-told Inv-loop μ-loop
 enum-told c = search needs
 
-add-n : tie.Need-add-n Inv-loop μ-loop
-add-n c = omega arith
+add-k : tie.Need-add-k Inv-loop μ-loop
+add-k c = omega arith
 
 loop-less : tie.Need-loop-less Inv-loop μ-loop
 loop-less c = omega arith
@@ -61,18 +56,14 @@ loop-again c =
     let l = d .before .before in
     let s = l .before .before in
     let r = rule (s .args .list .now) in
-    let k = l .loop .n - 1 in
-    let here : k < s .args .products = omega (arith, l .loop .inv .0, d .before .loop-test .taken) in
-    let next : k + 1 ≡ l .loop .n + 1 - 1 = omega (arith, l .loop .inv .0) in
-    let passed = went-on (r k) (sym (c .enum-told .given .1) ∙ d .check-product .ensures) in
-    (omega arith, omega (arith, here), l .loop .inv .2 ∙ kept r k (s .args .products) here passed ∙ ap (λ (j : ℕ). rulings r j (s .args .products)) next)
+    let passed = went-on (r (l .loop .k)) (sym (c .enum-told .given .1) ∙ d .check-product .ensures) in
+    (omega (arith, d .before .loop-test .taken), l .loop .inv .1 ∙ kept r (l .loop .k) (s .args .products) (d .before .loop-test .taken) passed)
 
 returns-2 : tie.Need-returns-2 Inv-loop μ-loop
 returns-2 c =
     let s = c .before .before .before in
     let l = c .before in
-    let past : s .args .products ≤ l .loop .n - 1 = omega (arith, c .loop-test .left) in
-    sym (ap checkedBy (l .loop .inv .2 ∙ all-kept (rule (s .args .list .now)) (l .loop .n - 1) (s .args .products) past))
+    sym (ap checkedBy (l .loop .inv .1 ∙ all-kept (rule (s .args .list .now)) (l .loop .k) (s .args .products) (omega (arith, c .loop-test .left))))
 
 pub check-products-spec : {M : Type 1} → statement M
 check-products-spec =
@@ -81,12 +72,11 @@ check-products-spec =
     Inv-loop
     μ-loop
     loop-holds
-    sub-check-product
     check-product-requires
     enum-known-checked
     returns
     enum-told
-    add-n
+    add-k
     loop-less
     loop-again
     returns-2)
