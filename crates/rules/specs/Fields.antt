@@ -1,6 +1,6 @@
 -- Section 2 of docs/RULES.md: what a row's fields, spare words and children must be.
 use Prim.Native.Nat.{ℕ, _+_}
-use mathlib.Core.Bool.{Bool, true, false, not, _&&_}
+use mathlib.Core.Bool.{Bool, true, false, not, _&&_, _||_}
 use lib.Dec.{ltb}
 use lib.IntN.{ℤ, pos, negsuc, _+ℤ_, _-ℤ_}
 use lib.Signed.{leZ}
@@ -12,7 +12,7 @@ use Rattle.rules.specs.declared.DrumShape.{DrumShape}
 use Rattle.rules.specs.declared.Kind.{Kind}
 use Rattle.rules.specs.declared.Kind.the-variants.{Box, Wedge, Drum, Union, Inter, Diff}
 use Rattle.rules.specs.Ranges.{Span, within, columns, codes, frames}
-use Rattle.rules.specs.Kinds.{namedWords}
+use Rattle.rules.specs.Kinds.{isPrimitive, namedWords}
 use Rattle.rules.specs.Table.{rowWords, boxShape, wedgeShape, drumShape}
 
 abbrev pub slopes : Span
@@ -61,10 +61,6 @@ abbrev pub isEarlier : ℕ → ℤ → Bool
 isEarlier row (pos child) = ltb child row
 isEarlier row (negsuc child) = false
 
+-- an operation has two
 abbrev pub childrenRight : Kind → (ℕ → ℤ) → ℕ → Bool
-childrenRight Box w row = true
-childrenRight Wedge w row = true
-childrenRight Drum w row = true
-childrenRight Union w row = isEarlier row (w 1) && isEarlier row (w 2)
-childrenRight Inter w row = isEarlier row (w 1) && isEarlier row (w 2)
-childrenRight Diff w row = isEarlier row (w 1) && isEarlier row (w 2)
+childrenRight k w row = isPrimitive k || (isEarlier row (w 1) && isEarlier row (w 2))

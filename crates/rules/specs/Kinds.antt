@@ -1,5 +1,6 @@
 -- Section 2 of docs/RULES.md: the kinds of rows, as its table has them.
 use Prim.Native.Nat.{ℕ}
+use mathlib.Core.Bool.{Bool, true, false}
 use mathlib.Core.List.{List, [], _∷_}
 use mathlib.Core.Option.{Option}
 use lib.IntN.{ℤ, pos}
@@ -10,6 +11,15 @@ use Rattle.rules.specs.declared.Kind.the-variants.{Box, Wedge, Drum, Uni
 
 abbrev pub kinds : List Kind
 kinds = Box ∷ Wedge ∷ Drum ∷ Union ∷ Inter ∷ Diff ∷ []
+
+-- a row is a primitive, or an operation on two others
+abbrev pub isPrimitive : Kind → Bool
+isPrimitive Box = true
+isPrimitive Wedge = true
+isPrimitive Drum = true
+isPrimitive Union = false
+isPrimitive Inter = false
+isPrimitive Diff = false
 
 -- word 0 of such a row
 abbrev pub kindNumber : Kind → ℕ

@@ -1,7 +1,7 @@
 -- What a row's kind word says of the row. Assumes nothing.
 use Prim.Native.Nat.{ℕ, _<_, _^_}
 use native.Mathlib.Omega.{arith}
-use mathlib.Core.Bool.{Bool, false, _&&_, _||_}
+use mathlib.Core.Bool.{Bool, false, _&&_}
 use mathlib.Core.List.{List}
 use mathlib.Core.Option.{Option, none, some}
 use mathlib.Core.Path.{_≡_, refl, sym, ap, _∙_}
@@ -15,13 +15,13 @@ use Rattle.rules.specs.declared.Kind.{Kind}
 use Rattle.rules.specs.declared.Kind.the-variants as kind
 use Rattle.rules.specs.declared.Row.{Row}
 use Rattle.rules.specs.declared.Row.the-variants.{Union, Inter, Diff}
-use Rattle.rules.specs.Kinds.{kindNumber, kindOf}
+use Rattle.rules.specs.Kinds.{isPrimitive, kindNumber, kindOf}
 use Rattle.rules.specs.Table.{rowCount, wordAt, operation, rowOf, rowBy, kindAt, rowAt}
-use Rattle.rules.specs.Fields.{isEarlier, childrenRight}
+use Rattle.rules.specs.Fields.{isEarlier}
 use Rattle.laws.specs.Sound.{SoundRow, Sound}
 use Rattle.laws.proofs.KindNumbers.{number-kind, kind-number, no-kind}
 use Rattle.table.specs.declared.Named.the-variants as named
-use Rattle.table.specs.Reading.{isPrimitive, InTable, IsOperation, namedBy}
+use Rattle.table.specs.Reading.{InTable, IsOperation, namedBy}
 
 -- ---- a kind from its number
 
@@ -91,16 +91,6 @@ module _ (t : List ℤ) (row : ℕ) where
 pub child-fits : (z : ℤ) → mag z < 2 ^ 31 → T (nonNeg z) → T (nonNeg z) × Fits w64 (natAbs z)
 child-fits (pos n) f h = (tt, omega arith)
 child-fits (negsuc n) f h = absurd h
-
--- ---- fields and children by the kind
-
-pub children-by : (k : Kind) (w : ℕ → ℤ) (row : ℕ) → childrenRight k w row ≡ (isPrimitive k || (isEarlier row (w 1) && isEarlier row (w 2)))
-children-by kind.Box w row = refl
-children-by kind.Wedge w row = refl
-children-by kind.Drum w row = refl
-children-by kind.Union w row = refl
-children-by kind.Inter w row = refl
-children-by kind.Diff w row = refl
 
 pub earlier-read : (row : ℕ) (z : ℤ) → (leZ (pos 0) z && ltZ z (pos row)) ≡ isEarlier row z
 earlier-read row (pos n) = ap (λ (b : Bool). b && ltb n row) (leb·zero n)

@@ -1,6 +1,6 @@
 -- What the reading of a table and its check answer, as values.
 use Prim.Native.Nat.{ℕ, _+_, _*_, _≤_, _<_}
-use mathlib.Core.Bool.{Bool, true, false}
+use mathlib.Core.Bool.{false}
 use mathlib.Core.List.{List, [], _∷_, flatMap}
 use mathlib.Core.Option.{Option, none, some}
 use mathlib.Core.Path.{_≡_}
@@ -10,9 +10,8 @@ use lib.ListN.{length, getD, set, replicate}
 use lib.Signed.{nonNeg}
 use Rattle.ground.specs.Lists.{below}
 use Rattle.rules.specs.declared.Kind.{Kind}
-use Rattle.rules.specs.declared.Kind.the-variants as kind
 use Rattle.rules.specs.declared.Refusal.{Refusal}
-use Rattle.rules.specs.Kinds.{kindOf}
+use Rattle.rules.specs.Kinds.{isPrimitive, kindOf}
 use Rattle.rules.specs.Table.{rowWords, wordAt, rowAt}
 use Rattle.rules.specs.Refusals.{refuseUnless}
 use Rattle.rules.specs.Verdict.{childrenOf}
@@ -21,14 +20,6 @@ use Rattle.table.specs.declared.Named.{Named}
 use Rattle.table.specs.declared.Named.the-variants as named
 use Rattle.table.specs.declared.Children.{Children}
 use Rattle.table.specs.declared.Children.the-variants as children
-
-abbrev pub isPrimitive : Kind → Bool
-isPrimitive kind.Box = true
-isPrimitive kind.Wedge = true
-isPrimitive kind.Drum = true
-isPrimitive kind.Union = false
-isPrimitive kind.Inter = false
-isPrimitive kind.Diff = false
 
 -- the table has the row whole
 pub record InTable (t : List ℤ) (row : ℕ) : Type 0 where

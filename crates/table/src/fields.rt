@@ -8,10 +8,10 @@ ghost use mathlib.Core.Path.{_≡_};
 ghost use lib.IntN.{pos};
 ghost use Rattle.ground.specs.Tests.{eqZ};
 ghost use Rattle.ground.specs.Lists.{rest, allOf};
-ghost use Rattle.rules.specs.Kinds.{namedWords};
+ghost use Rattle.rules.specs.Kinds.{isPrimitive, namedWords};
 ghost use Rattle.rules.specs.Table.{wordAt};
 ghost use Rattle.rules.specs.Fields.{endsRight, boxRight, slopesRight, wedgeRight, reachRight, drumRight, fieldsRight, isEarlier, childrenRight};
-ghost use Rattle.table.specs.Reading.{InTable, isPrimitive};
+ghost use Rattle.table.specs.Reading.{InTable};
 
 // Both ends are in a range, and lo <= hi.
 fn ends_right(least: i32, greatest: i32, lo: i32, hi: i32) -> bool

@@ -4,7 +4,6 @@ use borrow.Author.Needs.{needs}
 use mir.Syntax.{w32}
 use Rattle.ground.proofs.Signed.{read}
 use Rattle.rules.specs.Fields.{isEarlier}
-use Rattle.table.proofs.Rows.{children-by}
 use Rattle.table.proofs.fields.children_right.Statement.{statement}
 use Rattle.table.proofs.fields.children_right.Tie as tie
 
@@ -12,7 +11,7 @@ is-primitive-requires : tie.Need-is-primitive-requires
 is-primitive-requires c κs = search needs
 
 returns : tie.Need-returns
-returns c = rw (children-by, ← c .before .is-primitive .ensures, c .if1 .taken)
+returns c = rw (← c .before .is-primitive .ensures, c .if1 .taken)
 
 word-requires : tie.Need-word-requires
 word-requires c κs = search needs
@@ -31,7 +30,7 @@ returns-2 c =
     let s = c .before .before .before .before .before .before in
     let left = c .before .before .is-earlier .ensures ∙ ap (isEarlier (s .args .row)) (read w32 (c .before .before .before .word .ok) (c .before .before .before .word .ensures)) in
     let right = c .is-earlier2 .ensures ∙ ap (isEarlier (s .args .row)) (read w32 (c .before .word2 .ok) (c .before .word2 .ensures)) in
-    rw (children-by, ← c .before .before .before .before .before .is-primitive .ensures, c .before .before .before .before .if1 .left) (λ i. left i && right i)
+    rw (← c .before .before .before .before .before .is-primitive .ensures, c .before .before .before .before .if1 .left) (λ i. left i && right i)
 
 pub children-right-spec : {M : Type 1} → statement M
 children-right-spec =
