@@ -1,15 +1,14 @@
--- What the parts of a plan tell of the whole: its k-th way, whether that is fresh, and whether some way is blank. Assumes nothing.
+-- What the parts of a plan tell of the whole: its k-th way. Assumes nothing.
 use Prim.Native.Nat.{ℕ, zero, suc, _-_, _*_, _/_, _%_, _^_, _≤_, _<_}
 use native.Mathlib.Nat.{mod-lt, mul-comm, zero-mul, div-lt-iff-lt-mul}
 use native.Mathlib.Omega.{arith}
-use mathlib.Core.Bool.{Bool, true, false, not, _&&_, _||_, and-comm, and-true, and-false}
+use mathlib.Core.Bool.{true, false}
 use mathlib.Core.Path.{_≡_, refl, sym, ap, subst, _∙_}
 use borrow.Author.Tests.{lt-ltb, le-ltb}
-use lib.Bits.{bitAnd}
-use lib.Dec.{eqb, ltb}
+use lib.Dec.{ltb}
 use Rattle.rules.specs.declared.Product.{Product}
 use Rattle.rules.specs.Choices.{joined}
-use Rattle.laws.specs.Plans.{Plan, with-it, without, either, both, count, kth, blank, hollow, fresh}
+use Rattle.laws.specs.Plans.{Plan, with-it, without, either, both, count, kth}
 
 module _ {p a b : Plan} (e : p ≡ either a b) {n : ℕ} (is : n ≡ count a) (k : ℕ) where
   in-left : k < n → ltb k (count a) ≡ true
@@ -32,26 +31,6 @@ module _ {p a b : Plan} (e : p ≡ either a b) {n : ℕ} (is : n ≡ count a) (k
   pub kth-right : n ≤ k → kth b (k - n) ≡ kth p k
   unfolding kth
   kth-right l = rw (e, in-right l, is)
-
-  module _ (reach : ℕ) where
-    pub fresh-left : k < n → fresh a k reach ≡ fresh p k reach
-    unfolding fresh
-    fresh-left l = rw (e, in-left l)
-
-    fresh-right : n ≤ k → fresh p k reach ≡ (fresh b (k - n) reach && not (hollow (kth b (k - n)) reach && blank a reach))
-    unfolding fresh
-    fresh-right l = rw (e, in-right l, is)
-
-    -- the right part's own, unless it and some way of the left are both hollow
-    module _ (l : n ≤ k) {rep : Bool} (g : rep ≡ (blank a reach && hollow (kth b (k - n)) reach)) where
-      by-repeat : fresh p k reach ≡ (fresh b (k - n) reach && not rep)
-      by-repeat = fresh-right l ∙ ap (λ (x : Bool). fresh b (k - n) reach && not x) (and-comm (hollow (kth b (k - n)) reach) (blank a reach) ∙ sym g)
-
-      pub fresh-repeat : rep ≡ true → false ≡ fresh p k reach
-      fresh-repeat h = sym (by-repeat ∙ rw h (and-false (fresh b (k - n) reach)))
-
-      pub fresh-own : {f : Bool} → rep ≡ false → f ≡ fresh b (k - n) reach → f ≡ fresh p k reach
-      fresh-own h q = q ∙ sym (by-repeat ∙ rw h (and-true (fresh b (k - n) reach)))
 
 module _ {p a b : Plan} (e : p ≡ both a b) {n : ℕ} (is : n ≡ count a) (k : ℕ) where
   some-ways : k < count p → 0 < count a
@@ -76,17 +55,6 @@ module _ {p a b : Plan} (e : p ≡ both a b) {n : ℕ} (is : n ≡ count a) (k :
   unfolding kth
   kth-both g h = rw (e, g, h, is)
 
-  module _ (reach : ℕ) where
-    fresh-both : fresh p k reach ≡ (fresh a (k % n) reach && fresh b (k / n) reach)
-    unfolding fresh
-    fresh-both = rw (e, is)
-
-    pub fresh-low : fresh a (k % n) reach ≡ false → false ≡ fresh p k reach
-    fresh-low h = sym (fresh-both ∙ rw h)
-
-    pub fresh-high : {f : Bool} → fresh a (k % n) reach ≡ true → f ≡ fresh b (k / n) reach → f ≡ fresh p k reach
-    fresh-high h g = g ∙ sym (fresh-both ∙ rw h)
-
 -- ---- a primitive's bit
 
 module _ {p : Plan} {bit i : ℕ} (is : bit ≡ 2 ^ i) where
@@ -97,17 +65,3 @@ module _ {p : Plan} {bit i : ℕ} (is : bit ≡ 2 ^ i) where
   pub kth-out : p ≡ without i → (k : ℕ) → record { plain = 0; cuts = bit } ≡ kth p k
   unfolding kth
   kth-out e k = (λ j. record { plain = 0; cuts = is j }) ∙ sym (ap (λ (q : Plan). kth q k) e)
-
-  pub blank-out : p ≡ without i → (reach : ℕ) → eqb (bitAnd bit reach) 0 ≡ blank p reach
-  unfolding blank
-  blank-out e reach = ap (λ (b : ℕ). eqb (bitAnd b reach) 0) is ∙ sym (ap (λ (q : Plan). blank q reach) e)
-
--- some way is blank, by the parts
-module _ {p a b : Plan} (reach : ℕ) where
-  pub blank-either : p ≡ either a b → blank p reach ≡ (blank a reach || blank b reach)
-  unfolding blank
-  blank-either e = rw e
-
-  pub blank-both : p ≡ both a b → blank p reach ≡ (blank a reach && blank b reach)
-  unfolding blank
-  blank-both e = rw e

@@ -1,5 +1,5 @@
 -- A row on a side as a step of a plan, and what is remembered of a table's rows.
-use Prim.Native.Nat.{ℕ, _+_, _^_, _<_}
+use Prim.Native.Nat.{ℕ, _+_, _-_, _^_, _<_}
 use mathlib.Core.Bool.{Bool, true, false}
 use mathlib.Core.List.{List}
 use mathlib.Core.Logic.{_⊎_}
@@ -22,6 +22,10 @@ sideOf false = outOf
 
 unfoldable pub planAt : List ℤ → ℕ → Bool → Plan
 planAt t row within = plan (sideOf within) (treeAt t row)
+
+-- the plan of a table: that of its last row
+abbrev pub rootPlan : List ℤ → Plan
+rootPlan t = planAt t (rowCount t - 1) true
 
 -- a step of row `row` stands for a plan; its parts are earlier rows
 abbrev pub IsStep : List ℤ → ℕ → Plan → Step → Type 0

@@ -1,14 +1,13 @@
-// The ways of choosing in a row's tree, by recursion on the row: how many there are, the k-th of them, and whether an earlier one comes to the same.
+// The ways of choosing in a row's tree, by recursion on the row: how many there are, and the k-th of them.
 use rules::Product;
 use rules::Row;
 ghost use Prim.Native.Nat.{_+_, _<_};
-ghost use mathlib.Core.Bool.{_&&_};
 ghost use mathlib.Core.Path.{_≡_};
 ghost use lib.ListN.{length};
 ghost use Rattle.rules.specs.Choices.{joined};
 ghost use Rattle.rules.specs.Table.{rowCount, primitives, primitivesBefore};
 ghost use Rattle.laws.specs.Sound.{Sound};
-ghost use Rattle.laws.specs.Plans.{count, kth, blank, fresh, hollow};
+ghost use Rattle.laws.specs.Plans.{count, kth};
 ghost use Rattle.choice.specs.Steps.{planAt, slotOf, IsStep, NumberedTo, Numbered, Remembered};
 
 // What a row is on a side: a primitive's bit, in or out, or two parts, each a row and its side, of which either is chosen, or both.
@@ -19,7 +18,7 @@ pub enum Step {
     Both(usize, bool, usize, bool),
 }
 
-fn read_step(table: &[i32], bits: &[u64; 127], row: usize, within: bool) -> Step
+pub fn read_step(table: &[i32], bits: &[u64; 127], row: usize, within: bool) -> Step
     requires { ⌜ Sound (now table) ⌝ }
     requires { ⌜ row < rowCount (now table) ⌝ }
     requires { ⌜ Numbered (now table) (now bits) ⌝ }
@@ -191,98 +190,6 @@ pub fn choose(
             let x = choose(table, bits, counts, a, sa, k % n);
             let y = choose(table, bits, counts, b, sb, k / n);
             together(x, y)
-        }
-    }
-}
-
-// Some way comes to nothing within a set of primitives.
-pub fn some_blank(table: &[i32], bits: &[u64; 127], row: usize, within: bool, reach: u64) -> bool
-    requires { ⌜ Sound (now table) ⌝ }
-    requires { ⌜ row < rowCount (now table) ⌝ }
-    requires { ⌜ Numbered (now table) (now bits) ⌝ }
-    ensures { λ r. ⌜ r ≡ blank (planAt (now (table .entry)) row within) reach ⌝ }
-{
-    let step = read_step(table, bits, row, within);
-    match step {
-        Step::With(_) => false,
-        Step::Without(bit) => bit & reach == 0,
-        Step::Either(a, sa, b, sb) => {
-            some_blank(table, bits, a, sa, reach) || some_blank(table, bits, b, sb, reach)
-        }
-        Step::Both(a, sa, b, sb) => {
-            some_blank(table, bits, a, sa, reach) && some_blank(table, bits, b, sb, reach)
-        }
-    }
-}
-
-fn is_hollow(c: Product, reach: u64) -> bool
-    ensures { λ r. ⌜ r ≡ hollow c reach ⌝ }
-{
-    (c.plain == 0) & (c.cuts & reach == 0)
-}
-
-// Some way of a first part comes to nothing within a set of primitives, and so does the k-th way of a second.
-fn both_blank(
-    table: &[i32],
-    bits: &[u64; 127],
-    counts: &mut [u64; 254],
-    a: usize,
-    sa: bool,
-    b: usize,
-    sb: bool,
-    k: u64,
-    reach: u64,
-) -> bool
-    requires { ⌜ Sound (now table) ⌝ }
-    requires { ⌜ (a < rowCount (now table)) × (b < rowCount (now table)) ⌝ }
-    requires { ⌜ Numbered (now table) (now bits) ⌝ }
-    requires { ⌜ Remembered (now table) (now counts) ⌝ }
-    requires { ⌜ k < count (planAt (now table) b sb) ⌝ }
-    ensures { λ r. ⌜ (r ≡ (blank (planAt (now (table .entry)) a sa) reach && hollow (kth (planAt (now (table .entry)) b sb) k) reach)) × Remembered (now (table .entry)) (now (counts .exit)) ⌝ }
-{
-    if !some_blank(table, bits, a, sa, reach) {
-        return false;
-    }
-    is_hollow(choose(table, bits, counts, b, sb, k), reach)
-}
-
-// No earlier way comes to the same as the k-th within a set of primitives.
-pub fn is_fresh(
-    table: &[i32],
-    bits: &[u64; 127],
-    counts: &mut [u64; 254],
-    row: usize,
-    within: bool,
-    k: u64,
-    reach: u64,
-) -> bool
-    requires { ⌜ Sound (now table) ⌝ }
-    requires { ⌜ row < rowCount (now table) ⌝ }
-    requires { ⌜ Numbered (now table) (now bits) ⌝ }
-    requires { ⌜ Remembered (now table) (now counts) ⌝ }
-    requires { ⌜ k < count (planAt (now table) row within) ⌝ }
-    ensures { λ r. ⌜ (r ≡ fresh (planAt (now (table .entry)) row within) k reach) × Remembered (now (table .entry)) (now (counts .exit)) ⌝ }
-{
-    let step = read_step(table, bits, row, within);
-    match step {
-        Step::With(_) => true,
-        Step::Without(_) => true,
-        Step::Either(a, sa, b, sb) => {
-            let n = count_ways(table, bits, counts, a, sa);
-            if k < n {
-                return is_fresh(table, bits, counts, a, sa, k, reach);
-            }
-            if both_blank(table, bits, counts, a, sa, b, sb, k - n, reach) {
-                return false; // a repeat: an earlier way comes to nothing too
-            }
-            is_fresh(table, bits, counts, b, sb, k - n, reach)
-        }
-        Step::Both(a, sa, b, sb) => {
-            let n = count_ways(table, bits, counts, a, sa);
-            if !is_fresh(table, bits, counts, a, sa, k % n, reach) {
-                return false;
-            }
-            is_fresh(table, bits, counts, b, sb, k / n, reach)
         }
     }
 }

@@ -14,8 +14,7 @@ ghost use lib.ListN.{length};
 ghost use Rattle.rules.specs.Table.{rowCount};
 ghost use Rattle.laws.specs.Sound.{Sound};
 ghost use Rattle.laws.specs.Plans.{count};
-ghost use Rattle.choice.specs.Steps.{Numbered, Remembered};
-ghost use Rattle.list.specs.Growth.{rootPlan};
+ghost use Rattle.choice.specs.Steps.{rootPlan, Numbered, Remembered};
 
 fn say(bytes: &[u8]) {
     io::write_all(1, bytes);

@@ -22,7 +22,7 @@ use Rattle.laws.proofs.Apart.{table-apart, mask-in-table, few-primitive
 
 -- ---- a plan has fewer choices than its primitives have subsets
 
-unfoldable leaves : Plan → ℕ
+unfoldable pub leaves : Plan → ℕ
 leaves (with-it i) = 1
 leaves (without i) = 1
 leaves (either a b) = leaves a + leaves b
@@ -73,7 +73,7 @@ ones-one : (i : ℕ) → ones (2 ^ i) ≡ 1
 unfolding ones onesIn
 ones-one i = ap ones (sym (add-zero (1 * 2 ^ i) ∙ one-mul (2 ^ i))) ∙ ones-cat i 1 0 (pow-pos i)
 
-leaves-ones : (p : Plan) → Apart p → leaves p ≡ ones (mask p)
+pub leaves-ones : (p : Plan) → Apart p → leaves p ≡ ones (mask p)
 unfolding leaves mask Apart
 leaves-ones (with-it i) h = sym (ones-one i)
 leaves-ones (without i) h = sym (ones-one i)

@@ -7,6 +7,7 @@ pub mod Trees
 pub mod Telling
 pub mod Columns
 pub mod Apart
+pub mod Numbers
 pub mod Expansion
 pub mod Spaces
 pub mod Reach

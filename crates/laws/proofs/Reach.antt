@@ -1,7 +1,6 @@
 -- The primitives in reach of the chosen ones decide what stays of the choices in a window; and such sets, place by place. Assumes nothing.
 use Prim.Native.Nat.{ℕ, zero, suc, _+_, _*_, _/_, _%_, _^_, _≤_, _<_}
 use native.Mathlib.Nat.{not-suc-le-zero, le-of-suc-le-suc, one-mul, pow-suc}
-use native.Mathlib.Numerals.{add-one}
 use native.Mathlib.Omega.{arith}
 use mathlib.Core.Bool.{Bool, true, false, not, _&&_, _||_, and-assoc, and-comm}
 use mathlib.Core.List.{List, [], _∷_, _++_, map}
@@ -9,14 +8,13 @@ use mathlib.Core.Path.{_≡_, refl, sym, ap, ap₂, _∙_}
 use borrow.Author.Tests.{eqb-true, eqb-false, eq-eqb, ne-eqb}
 use lib.Bits.{bitAnd, bitOr, or-zero-r, or-shifted-r, and-zero-r}
 use lib.Dec.{eqb}
-use lib.ListN.{length, getD, take, drop}
-use lib.Pow.{shr-shr}
-use lib.Seq.{take-suc, drop-cons, drop-length, length-take-le}
+use lib.ListN.{length, getD, take}
+use lib.Seq.{take-suc, length-take-le}
 use Rattle.ground.specs.Bits.{odd, selected, placesOf, placesWhere}
 use Rattle.ground.specs.Lists.{All, allOf, anyOf, keepIf}
 use Rattle.ground.specs.Tests.{if_then_else_}
 use Rattle.ground.proofs.Lists.{all-map}
-use Rattle.ground.proofs.Masks.{has, has-and, has-none, has-shifted, same-places}
+use Rattle.ground.proofs.Masks.{has, has-and, has-none, same-places}
 use Rattle.rules.specs.declared.Primitive.{Primitive}
 use Rattle.rules.specs.declared.Product.{Product}
 use Rattle.rules.specs.declared.Window.{Window}
@@ -245,17 +243,3 @@ module _ (w : Window) (solids : List Primitive) where
 
         agree : All Agree (choices inOf tree)
         agree = all-map (λ c. c .plain < 2 ^ length solids) Agree (λ c l. (alive-exact c l, trimmed-pruned c)) (choices inOf tree) h
-
--- ---- cutting down place by place, as a loop does
-
-pub cut-step : (ms : List ℕ) (chosen set d k : ℕ) → k < length ms
-    → cutDown (drop k ms) (chosen / 2 ^ k) set ≡ cutDown (drop (suc k) ms) (chosen / 2 ^ suc k) (if has k chosen then bitAnd (getD ms k d) set else set)
-unfolding cutDown
-cut-step ms chosen set d k l =
-    let half : chosen / 2 ^ k / 2 ≡ chosen / 2 ^ suc k = shr-shr chosen k 1 ∙ ap (λ (n : ℕ). chosen / 2 ^ n) (add-one k) in
-    ap (λ (ns : List ℕ). cutDown ns (chosen / 2 ^ k) set) (drop-cons ms k d l)
-    ∙ (λ i. cutDown (drop (suc k) ms) (half i) (if sym (has-shifted k chosen) i then bitAnd (getD ms k d) set else set))
-
-pub cut-done : (ms : List ℕ) (chosen set : ℕ) → cutDown (drop (length ms) ms) chosen set ≡ set
-unfolding cutDown
-cut-done ms chosen set = ap (λ (ns : List ℕ). cutDown ns chosen set) (drop-length ms)

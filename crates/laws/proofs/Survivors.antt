@@ -1,14 +1,12 @@
 -- The list of some choices: what the next choice adds, and how long the list is. Assumes nothing.
-use Prim.Native.Nat.{ℕ, zero, suc, _+_, _≤_, _<_}
-use native.Mathlib.Decide.{decLe}
-use native.Mathlib.Nat.{le-trans, le-of-eq}
+use Prim.Native.Nat.{ℕ, suc, _+_, _≤_, _<_}
 use native.Mathlib.Omega.{arith}
 use mathlib.Core.Bool.{Bool, true, false, not, _&&_}
 use mathlib.Core.List.{List, [], _∷_, _++_, map, append-nil, map-append}
 use mathlib.Core.Path.{_≡_, refl, sym, ap, ap₂, subst, _∙_}
 use lib.Bits.{bitAnd}
-use lib.ListN.{length, getD, take, length-append, length-map}
-use lib.Seq.{take-suc, take-nil, take-all, take-length, length-take-le, getD-take}
+use lib.ListN.{length, getD, take, length-map}
+use lib.Seq.{take-suc, take-length, length-take-le, getD-take}
 use Rattle.ground.specs.Tests.{if_then_else_}
 use Rattle.ground.specs.Lists.{anyOf, keepIf}
 use Rattle.ground.proofs.Branches.{false-true, and-left, and-right}
@@ -147,27 +145,3 @@ module _ (alive : ℕ → Bool) (reach : ℕ → ℕ) where
   survivors-length cs =
       let kept = keepIf (λ c. alive (c .plain)) cs in
       omega (arith, firsts-length (map (pruned alive reach) kept), length-map kept (pruned alive reach), kept-length (λ c. alive (c .plain)) cs)
-
-  -- the list of some first choices is no longer than the list of all
-  pub survivors-grows : (cs : List Product) (k : ℕ) → length (survivors alive reach (take k cs)) ≤ length (survivors alive reach cs)
-  survivors-grows [] k = le-of-eq (ap (λ (l : List Product). length (survivors alive reach l)) (take-nil k))
-  survivors-grows (d ∷ ds) k = go (length cs) k (omega arith)
-    where
-      cs : List Product
-      cs = d ∷ ds
-
-      size : ℕ → ℕ
-      size k = length (survivors alive reach (take k cs))
-
-      next : (k : ℕ) → k < length cs → size k ≤ size (suc k)
-      next k l =
-          let extra = if new (take k cs) (getD cs k d) then pruned alive reach (getD cs k d) ∷ [] else [] in
-          omega (arith, ap length (survivors-step cs d k l), length-append (survivors alive reach (take k cs)) extra)
-
-      go : (n k : ℕ) → length cs ≤ k + n → size k ≤ length (survivors alive reach cs)
-      go zero k h = le-of-eq (ap (λ (l : List Product). length (survivors alive reach l)) (take-all k cs (omega arith)))
-      go (suc n) k h = at (decLe (length cs) k) (go n)
-        where
-          at : Dec (length cs ≤ k) → ((k : ℕ) → length cs ≤ k + n → size k ≤ length (survivors alive reach cs)) → size k ≤ length (survivors alive reach cs)
-          at (yes l) f = f k (omega arith)
-          at (no l) f = le-trans (next k (omega arith)) (f (suc k) (omega arith))

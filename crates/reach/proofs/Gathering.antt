@@ -1,37 +1,26 @@
 -- Sets of primitives that are gathered row by row come to the sets of all of them. Assumes nothing.
-use Prim.Native.Nat.{ℕ, suc, _+_, _/_, _^_, _<_}
-use native.Mathlib.Numerals.{add-one}
+use Prim.Native.Nat.{ℕ, suc, _+_, _^_, _<_}
 use native.Mathlib.Omega.{arith}
 use mathlib.Core.Bool.{Bool}
-use mathlib.Core.List.{List, [], _∷_, _++_, map, append-nil}
+use mathlib.Core.List.{List, [], _∷_, _++_, append-nil}
 use mathlib.Core.Option.{some}
-use mathlib.Core.Path.{_≡_, refl, sym, ap, subst, _∙_}
-use lib.Bits.{bitAnd, bitOr, and-mask}
-use lib.Dec.{eqb}
+use mathlib.Core.Path.{_≡_, sym, ap, subst, _∙_}
+use lib.Bits.{bitOr}
 use lib.IntN.{ℤ}
-use lib.ListN.{length, take, set, length-append, length-set}
-use lib.Seq.{take-all, take-append-seam, getD-append-seam, take-suc-set}
+use lib.ListN.{length, set, length-append}
+use lib.Seq.{take-all, take-append-seam, getD-append-seam}
 use Rattle.ground.specs.Bits.{placesOf}
 use Rattle.ground.specs.Tests.{if_then_else_}
 use Rattle.ground.proofs.Counting.{flatMap-next}
-use Rattle.ground.proofs.Masks.{has, has-shifted}
 use Rattle.rules.specs.declared.Primitive.{Primitive}
 use Rattle.rules.specs.declared.Row.{Row}
 use Rattle.rules.specs.declared.Row.the-variants.{Solid}
-use Rattle.rules.specs.Products.{boxOf}
 use Rattle.rules.specs.Table.{rowCount, rowAt, solidOf, primitivesBefore}
-use Rattle.laws.specs.Reach.{sharing}
 use Rattle.laws.specs.Sound.{Sound}
 use Rattle.laws.proofs.Expansion.{number-fits}
 use Rattle.laws.proofs.Reach.{places-next}
 use Rattle.reach.specs.declared.Gathered.{Gathered}
-use Rattle.reach.specs.Gathering.{withOne, Gathers, Meets, Met}
-
--- ---- bits
-
--- as code tests one
-pub bit-tested : (i n : ℕ) → eqb (bitAnd (n / 2 ^ i) 1) 1 ≡ has i n
-bit-tested i n = ap (λ (x : ℕ). eqb x 1) (and-mask (n / 2 ^ i) 1) ∙ sym (has-shifted i n)
+use Rattle.reach.specs.Gathering.{withOne, Gathers}
 
 -- ---- one element more
 
@@ -44,31 +33,12 @@ last-place {A} test xs x =
     ∙ places-next test x all (length xs) (omega arith)
     ∙ (λ i. bitOr (placesOf test (take-append-seam xs (x ∷ []) i)) (if test (getD-append-seam xs x [] x i) then 2 ^ length xs else 0))
 
-last-mapped : {A B : Type 0} (f : A → B) (xs : List A) (x : A) → map f (xs ++ (x ∷ [])) ≡ map f xs ++ (f x ∷ [])
-last-mapped f [] x = refl
-last-mapped {A} {B} f (y ∷ ys) x = ap (λ (zs : List B). f y ∷ zs) (last-mapped f ys x)
-
 module _ (solids : List Primitive) (s : Primitive) where
   gathers-more : (test : Primitive → Bool) (g : Gathered) → Gathers solids test g → Gathers (solids ++ (s ∷ [])) test (withOne g (test s))
   gathers-more test g G = record {
     set = (λ i. bitOr (G .set i) (if test s then 2 ^ G .count i else 0)) ∙ sym (last-place test solids s);
     count = ap (λ (n : ℕ). n + 1) (G .count) ∙ sym (length-append solids (s ∷ []));
   }
-
-  pub meets-more : (all : List Primitive) (count : ℕ) (meets : List ℕ) → count < 64 → Meets all solids count meets
-      → Meets all (solids ++ (s ∷ [])) (count + 1) (set meets count (sharing all (boxOf s)))
-  meets-more all count meets l M = record {
-    size = length-set meets count (sharing all (boxOf s)) ∙ M .size;
-    number = ap (λ (n : ℕ). n + 1) (M .number) ∙ sym (length-append solids (s ∷ []));
-    each =
-        ap (λ (n : ℕ). take n (set meets count (sharing all (boxOf s)))) (add-one count)
-        ∙ take-suc-set meets count (sharing all (boxOf s)) (omega (arith, M .size))
-        ∙ ap (λ (ns : List ℕ). ns ++ (sharing all (boxOf s) ∷ [])) (M .each)
-        ∙ sym (last-mapped (λ p. sharing all (boxOf p)) solids s);
-  }
-
-pub met : {all : List Primitive} {count : ℕ} {meets : List ℕ} → Meets all all count meets → (count ≡ length all) × Met all meets
-met {meets = meets} M = (M .number, record { size = M .size; each = ap (λ (n : ℕ). take n meets) (sym (M .number)) ∙ M .each })
 
 -- ---- one row more
 

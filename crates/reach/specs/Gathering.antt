@@ -1,10 +1,10 @@
--- Spans apart; sets of primitives while they are gathered row by row, and such sets in an array.
-use Prim.Native.Nat.{ℕ, _+_, _^_}
+-- Spans apart, and sets of primitives while they are gathered row by row.
+use Prim.Native.Nat.{_+_, _^_}
 use mathlib.Core.Bool.{Bool}
-use mathlib.Core.List.{List, map}
+use mathlib.Core.List.{List}
 use mathlib.Core.Path.{_≡_}
 use lib.Bits.{bitOr}
-use lib.ListN.{length, take}
+use lib.ListN.{length}
 use lib.Signed.{ltZ}
 use Rattle.ground.specs.Bits.{placesOf}
 use Rattle.ground.specs.Tests.{if_then_else_}
@@ -12,7 +12,6 @@ use Rattle.rules.specs.declared.Primitive.{Primitive}
 use Rattle.rules.specs.Ranges.{Span}
 use Rattle.rules.specs.Boxes.{Box, common, share}
 use Rattle.rules.specs.Products.{boxOf}
-use Rattle.laws.specs.Reach.{sharing, meetings}
 use Rattle.reach.specs.declared.Gathered.{Gathered}
 
 -- two spans have nothing in common
@@ -31,14 +30,3 @@ pub record Gathers (solids : List Primitive) (test : Primitive → Bool) (g : Ga
 -- a box shares a point with the primitive's box
 abbrev pub meeting : Box → Primitive → Bool
 meeting box s = share (boxOf s) box
-
--- an array that holds, for each of some primitives, which of all share a point with it; and how many these are
-pub record Meets (all solids : List Primitive) (count : ℕ) (meets : List ℕ) : Type 0 where
-  pub size : length meets ≡ 64
-  pub number : count ≡ length solids
-  pub each : take count meets ≡ map (λ s. sharing all (boxOf s)) solids
-
--- an array that holds it for each primitive
-pub record Met (solids : List Primitive) (meets : List ℕ) : Type 0 where
-  pub size : length meets ≡ 64
-  pub each : take (length solids) meets ≡ meetings solids

@@ -3,17 +3,19 @@ use rules::BoxShape;
 use rules::Primitive;
 use rules::Row;
 use rules::Window;
-ghost use Prim.Native.Nat.{_+_, _≤_, _<_};
+ghost use Prim.Native.Nat.{_+_, _<_};
 ghost use mathlib.Core.Bool.{true};
+ghost use mathlib.Core.Option.{some};
 ghost use mathlib.Core.Path.{_≡_};
-ghost use lib.ListN.{length, take};
 ghost use Rattle.rules.specs.Boxes.{windowBox, share};
 ghost use Rattle.rules.specs.Inside.{bounds};
 ghost use Rattle.rules.specs.Products.{boxOf};
-ghost use Rattle.rules.specs.Table.{rowCount, primitivesBefore, primitives};
+ghost use Rattle.rules.specs.declared.Primitive.{Primitive};
+ghost use Rattle.rules.specs.declared.Row.the-variants.{Solid};
+ghost use Rattle.rules.specs.Table.{rowCount, rowAt, primitivesBefore, primitives};
 ghost use Rattle.laws.specs.Sound.{Sound, solidRight};
-ghost use Rattle.laws.specs.Reach.{sharing, cutDown};
-ghost use Rattle.reach.specs.Gathering.{apart, withOne, Gathers, meeting, Meets, Met};
+ghost use Rattle.laws.specs.Reach.{sharing};
+ghost use Rattle.reach.specs.Gathering.{apart, withOne, Gathers, meeting};
 
 // The primitives that have passed: those of which a test holds, and how many there were.
 pub struct Gathered {
@@ -116,62 +118,17 @@ pub fn seen_in(table: &[i32], w: Window) -> u64
     sharing_with(table, b)
 }
 
-// One row more: a primitive's set goes to its own number. The answer is how many primitives there are so far.
-fn meet_row(meets: &mut [u64], table: &[i32], row: usize, count: usize) -> usize
+// The primitives whose boxes share a point with that of a row's primitive.
+pub fn sharing_row(table: &[i32], row: usize) -> u64
     requires { ⌜ Sound (now table) ⌝ }
     requires { ⌜ row < rowCount (now table) ⌝ }
-    requires { ⌜ Meets (primitives (now table)) (primitivesBefore (now table) row) count (now meets) ⌝ }
-    ensures { λ r. ⌜ Meets (primitives (now (table .entry))) (primitivesBefore (now (table .entry)) (row + 1)) r (now (meets .exit)) ⌝ }
+    ensures { λ r. ⌜ ((s : Primitive) → rowAt (now (table .entry)) row ≡ some (Solid s) → r ≡ sharing (primitives (now (table .entry))) (boxOf s)) ⌝ }
 {
     let reads = table::read_row(table, row);
     match reads {
-        Row::Solid(s) => {
-            meets[count] = sharing_with(table, box_of(s));
-            count + 1
-        }
-        Row::Union(_, _) => count,
-        Row::Inter(_, _) => count,
-        Row::Diff(_, _) => count,
+        Row::Solid(s) => sharing_with(table, box_of(s)),
+        Row::Union(_, _) => 0,
+        Row::Inter(_, _) => 0,
+        Row::Diff(_, _) => 0,
     }
-}
-
-// `meet_all` over a slice: the array's length is told where it is lent as one.
-fn meet_rows(meets: &mut [u64], table: &[i32]) -> usize
-    requires { ⌜ Sound (now table) ⌝ }
-    requires { ⌜ length (now meets) ≡ 64 ⌝ }
-    ensures { λ r. ⌜ (r ≡ length (primitives (now (table .entry)))) × Met (primitives (now (table .entry))) (now (meets .exit)) ⌝ }
-{
-    let rows = table.len() / rules::ROW_WORDS;
-    let mut count: usize = 0;
-    let mut row: usize = 0;
-    while row < rows {
-        count = meet_row(meets, table, row, count);
-        row += 1;
-    }
-    count
-}
-
-// For each primitive, those whose boxes share a point with its own; and how many primitives there are.
-pub fn meet_all(meets: &mut [u64; 64], table: &[i32]) -> usize
-    requires { ⌜ Sound (now table) ⌝ }
-    ensures { λ r. ⌜ (r ≡ length (primitives (now (table .entry)))) × Met (primitives (now (table .entry))) (now (meets .exit)) ⌝ }
-{
-    meet_rows(meets, table)
-}
-
-// What is left of a set after each chosen primitive has cut it.
-pub fn cut_down(meets: &[u64; 64], primitives: usize, chosen: u64, set: u64) -> u64
-    requires { ⌜ primitives ≤ 64 ⌝ }
-    requires { ⌜ length (now meets) ≡ 64 ⌝ }
-    ensures { λ r. ⌜ r ≡ cutDown (take primitives (now (meets .entry))) chosen set ⌝ }
-{
-    let mut left = set;
-    let mut i: usize = 0;
-    while i < primitives {
-        if (chosen >> i) & 1 == 1 {
-            left = meets[i] & left;
-        }
-        i += 1;
-    }
-    left
 }

@@ -1,11 +1,10 @@
+-- The ways, then the list. Assumes nothing.
 use Prim.Native.Nat.{ℕ}
-use native.Mathlib.Omega.{arith}
 use mathlib.Core.Path.{sym, _∙_}
 use borrow.Author.Needs.{needs}
 use lib.ListN.{length-replicate}
 use Rattle.laws.proofs.Soundness.{table-sound}
 use Rattle.laws.specs.Sound.{Sound}
-use Rattle.choice.proofs.Steps.{nothing-remembered}
 use Rattle.list.proofs.Calls.{made-many, expansion-ways}
 use Rattle.list.proofs.make_for.Statement.{statement}
 use Rattle.list.proofs.make_for.Tie as tie
@@ -16,23 +15,18 @@ sound s = table-sound (s .args .table .now) (s .pre .0)
 number-rows-requires : tie.Need-number-rows-requires
 number-rows-requires c κs = (sound (c .before .before), length-replicate {A = ℕ} 127 0)
 
-sub-root : tie.Need-sub-root
-sub-root c = let s = c .before .before .before in omega (arith, sound s .some-row)
-
-count-ways-requires : tie.Need-count-ways-requires
-count-ways-requires c κs =
-    let s = c .before .before .before .before .before in
-    (sound s, (omega (arith, sound s .some-row), (c .before .before .number-rows .ensures .1, nothing-remembered (s .args .table .now))))
+ways-of-requires : tie.Need-ways-of-requires
+ways-of-requires c κs = (sound (c .before .before .before .before), c .before .number-rows .ensures .1)
 
 returns : tie.Need-returns
 returns c =
-    let s = c .before .before .before .before .before .before .before in
-    made-many (s .args .table .now) (s .args .w) (s .args .list .now) (s .pre .0) (s .pre .1) (c .before .count-ways .ensures .0 ∙ sym (expansion-ways (s .args .table .now))) (c .if1 .taken)
+    let s = c .before .before .before .before .before .before in
+    made-many (s .args .table .now) (s .args .w) (s .args .list .now) (s .pre .0) (s .pre .1) (c .before .ways-of .ensures ∙ sym (expansion-ways (s .args .table .now))) (c .if1 .taken)
 
 make-of-requires : tie.Need-make-of-requires
 make-of-requires c κs =
-    let s = c .before .before .before .before .before .before .before .before .before .before in
-    (s .pre, (c .before .before .before .before .before .before .before .number-rows .ensures .1, (c .before .before .before .before .count-ways .ensures .1, (c .before .before .before .before .count-ways .ensures .0, omega (arith, c .before .before .before .if1 .left)))))
+    let s = c .before .before .before .before .before .before .before .before in
+    (s .pre, ((c .before .before .before .before .before .number-rows .ensures .1, c .before .before .before .before .before .number-rows .ensures .0), (c .before .before .before .ways-of .ensures, c .before .before .if1 .left)))
 
 same-length : tie.Need-same-length
 same-length c = search needs
@@ -43,11 +37,4 @@ returns-2 c = search needs
 pub make-for-spec : {M : Type 1} → statement M
 make-for-spec =
     tie.close
-    (tie.spec
-    number-rows-requires
-    sub-root
-    count-ways-requires
-    returns
-    make-of-requires
-    same-length
-    returns-2)
+    (tie.spec number-rows-requires ways-of-requires returns make-of-requires same-length returns-2)

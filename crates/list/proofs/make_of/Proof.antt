@@ -1,24 +1,24 @@
-use Prim.Native.Nat.{ℕ, _+_, _*_, _≤_}
+-- The room, then the list. Assumes nothing.
+use Prim.Native.Nat.{ℕ, _+_, _*_, _≤_, _<_}
 use native.Mathlib.Omega.{arith}
+use mathlib.Core.Bool.{true}
 use mathlib.Core.List.{List, flatMap}
-use mathlib.Core.Path.{_≡_, sym, ap, _∙_}
+use mathlib.Core.Path.{_≡_, sym, ap, subst, _∙_}
 use borrow.Author.Needs.{needs}
-use lib.ListN.{length}
-use lib.Seq.{length-sets}
+use lib.ListN.{length, length-replicate}
+use lib.Seq.{sets}
 use Rattle.rules.specs.Choices.{expansion}
-use Rattle.rules.specs.ListCalls.{zoneList}
+use Rattle.rules.specs.ListCalls.{zoneList, ListMade}
 use Rattle.rules.specs.ListWords.{wordsOf}
 use Rattle.rules.specs.Products.{products}
 use Rattle.rules.specs.Table.{primitives}
 use Rattle.rules.specs.Tree.{treeOf}
 use Rattle.rules.specs.declared.Product.{Product}
-use Rattle.laws.proofs.Apart.{few-primitives}
+use Rattle.rules.specs.declared.Written.the-variants as written
 use Rattle.laws.proofs.Soundness.{table-sound}
 use Rattle.laws.specs.Sound.{Sound}
-use Rattle.choice.specs.Steps.{Remembered}
-use Rattle.list.proofs.Calls.{made-room, made-fine, expansion-ways, zone-words, survivors-to-products, list-written}
-use Rattle.list.proofs.Growth.{survivors-to-length}
-use Rattle.list.specs.Growth.{rootPlan, survivorsTo, Ready}
+use Rattle.walk.proofs.Tracks.{put-length}
+use Rattle.list.proofs.Calls.{made-room, made-fine, expansion-ways, zone-words, walked, walked-products, walked-few, list-written}
 use Rattle.list.proofs.make_of.Statement.{statement}
 use Rattle.list.proofs.make_of.Tie as tie
 
@@ -26,100 +26,97 @@ sound : (s : tie.Start) → Sound (s .args .table .now)
 sound s = table-sound (s .args .table .now) (s .pre .0 .0)
 
 not-many : (s : tie.Start) → expansion (treeOf (s .args .table .now)) ≤ 65536
-not-many s = omega (arith, expansion-ways (s .args .table .now), s .pre .1 .1 .1 .0, s .pre .1 .1 .1 .1)
+not-many s = omega (arith, expansion-ways (s .args .table .now), s .pre .1 .1 .0, s .pre .1 .1 .1)
 
--- with the masks of the boxes the loops can start
-ready : (m : tie.After-meet-all) {counts : List ℕ} → Remembered (m .before .before .before .args .table .now) counts
-    → Ready (m .before .before .before .args .table .now) (m .before .before .before .args .bits .now) counts (m .meet-all .last .0) (m .meet-all .result)
-ready m r =
-    let s = m .before .before .before in
-    record {
-      sound = sound s;
-      numbered = s .pre .1 .0;
-      remembered = r;
-      few = omega (arith, m .meet-all .ensures .0, few-primitives (s .args .table .now) (sound s));
-      size = m .meet-all .ensures .1 .size;
-    }
-
--- what the loops go through is the zone's list of products
-module _ (m : tie.After-seen-in) where
+-- what is walked from the rows is the zone's list of products
+module _ (m : tie.After-lay) where
   abbrev start : tie.Start
-  start = m .before .before .before .before
+  start = m .before .before .before .before .before
 
   abbrev all : List Product
-  all = survivorsTo (m .before .meet-all .last .0) (m .before .meet-all .result) (m .seen-in .result) (rootPlan (start .args .table .now)) (start .args .ways)
+  all = walked (m .lay .ensures)
 
   all-products : all ≡ products (start .args .w) (primitives (start .args .table .now)) (treeOf (start .args .table .now))
-  all-products =
-      let made = m .before .meet-all in
-      survivors-to-products (start .args .table .now) (start .args .w) (sound start) (start .pre .0 .1) (made .last .0) (made .ensures .0) (made .ensures .1) (m .seen-in .ensures) (start .pre .1 .1 .1 .0)
+  all-products = walked-products (m .lay .ensures) (start .args .w) (sound start) (start .pre .0 .1) (m .before .before .before .seen-in .ensures)
 
   all-words : 8 + 2 * length all ≡ length (zoneList (start .args .table .now) (start .args .w))
   all-words = ap (λ (ps : List Product). 8 + 2 * length ps) all-products ∙ sym (zone-words (start .args .table .now) (start .args .w))
 
-  all-few : length all ≤ 65536
-  all-few =
-      let made = m .before .meet-all in
-      omega (arith, start .pre .1 .1 .1 .1, survivors-to-length (made .last .0) (made .result) (m .seen-in .result) (rootPlan (start .args .table .now)) (start .args .ways) (omega (arith, start .pre .1 .1 .1 .0)))
-
-meet-all-requires : tie.Need-meet-all-requires
-meet-all-requires c κs = sound (c .before .before)
+  all-few : length all ≤ start .args .ways
+  all-few = walked-few (m .lay .ensures) (start .pre .1 .1 .0)
 
 seen-in-requires : tie.Need-seen-in-requires
-seen-in-requires c κs = sound (c .before .before .before)
+seen-in-requires c κs = sound (c .before)
+
+lay-requires : tie.Need-lay-requires
+lay-requires c κs =
+    let s = c .before .before .before .before in
+    (record { sound = sound s; numbered = s .pre .1 .0 .0 }, (length-replicate {A = ℕ} 508 0, length-replicate {A = ℕ} 381 0))
 
 measure-requires : tie.Need-measure-requires
 measure-requires c κs =
-    let s = c .before .before .before .before .before .before in
-    (ready (c .before .before .before) (s .pre .1 .1 .0), s .pre .1 .1 .1)
-
-returns : tie.Need-returns
-returns c =
-    let s = c .before .before .before .before .before .before .before .before in
-    made-room (s .args .table .now) (s .args .w) (s .args .list .now) (s .pre .0 .0) (s .pre .0 .1) (not-many s)
-    (c .before .measure .ensures .0 .exact (c .if1 .taken) ∙ all-words (c .before .before .before .before)) (c .if1 .taken)
-
-write-products-requires : tie.Need-write-products-requires
-write-products-requires c κs =
-    let s = c .before .before .before .before .before .before .before .before .before .before .before in
-    (ready (c .before .before .before .before .before .before .before .before) (c .before .before .before .before .measure .ensures .1), (s .pre .1 .1 .1, c .before .before .before .before .measure .ensures .0 .enough (c .before .before .before .if1 .left)))
-
-write-header-requires : tie.Need-write-header-requires
-write-header-requires c κs =
-    let s = c .before .before .before .before .before .before .before .before .before .before .before .before .before .before .before in
-    (s .pre .0 .1, omega (arith, c .before .before .before .before .before .before .before .before .measure .ensures .0 .enough (c .before .before .before .before .before .before .before .if1 .left), ap length (c .before .before .before .write-products .ensures .1), length-sets (s .args .list .now) 8 (flatMap wordsOf (all (c .before .before .before .before .before .before .before .before .before .before .before)))))
-
-mul-t13 : tie.Need-mul-t13
-mul-t13 c = record { fits = omega (arith, c .before .before .before .before .before .before .write-products .ensures .0, all-few (c .before .before .before .before .before .before .before .before .before .before .before .before .before .before)) }
-
-add-t26 : tie.Need-add-t26
-add-t26 c = record { fits = omega (arith, c .before .before .before .before .before .before .write-products .ensures .0, all-few (c .before .before .before .before .before .before .before .before .before .before .before .before .before .before)) }
+    let m = c .before .before .before in
+    (m .lay .ensures .sound, (all-few m, m .before .before .before .before .before .pre .1 .1 .1))
 
 same-length : tie.Need-same-length
 same-length c = search needs
 
+returns : tie.Need-returns
+returns c =
+    let s = c .before .before .before .before .before .before .before .before .before .before .before .before in
+    let m = c .before .before .before .before .before .before .before in
+    let same = c .before .before .before .measure .ensures .1 in
+    let short : length (s .args .list .now) < c .before .before .before .measure .result = omega (arith, c .if1 .taken, ap length same) in
+    subst (λ (l : List ℕ). ListMade (s .args .table .now) (s .args .w) (s .args .list .now) l (written.Refused (record { number = 8; value = c .before .before .before .measure .result }))) (sym same)
+    (made-room (s .args .table .now) (s .args .w) (s .args .list .now) (s .pre .0 .0) (s .pre .0 .1) (not-many s) (c .before .before .before .measure .ensures .0 .exact short ∙ all-words m) short)
+
+-- where the room is not too small, the list has room
+there : (r : tie.Else1) → 8 + 2 * length (all (r .before .before .before .before .before .before .before)) ≤ length (r .before .before .before .before .before .before .before .before .before .before .before .before .args .list .now)
+there r =
+    let measured = r .before .before .before .measure .ensures in
+    measured .0 .enough (omega (arith, r .if1 .left, ap length (measured .1)))
+
+walk-requires : tie.Need-walk-requires
+walk-requires c κs =
+    let r = c .before .before .before in
+    (c .before .before .before .before .before .before .before .before .before .before .lay .ensures .sound, (omega (arith, all-few (c .before .before .before .before .before .before .before .before .before .before), c .before .before .before .before .before .before .before .before .before .before .before .before .before .before .before .pre .1 .1 .1), λ k. omega (arith, there r, ap length (c .before .before .before .before .before .before .measure .ensures .1))))
+
+write-header-requires : tie.Need-write-header-requires
+write-header-requires c κs =
+    let r = c .before .before .before .before .before .before .before in
+    (c .before .before .before .before .before .before .before .before .before .before .before .before .before .before .before .before .before .before .before .pre .0 .1, omega (arith, there r, put-length true (c .before .before .before .walk .ensures), ap length (c .before .before .before .before .before .before .before .before .before .before .measure .ensures .1)))
+
+mul-t19 : tie.Need-mul-t19
+mul-t19 c = record { fits = omega (arith, c .before .before .before .before .before .before .walk .ensures .count, all-few (c .before .before .before .before .before .before .before .before .before .before .before .before .before .before .before .before .before), c .before .before .before .before .before .before .before .before .before .before .before .before .before .before .before .before .before .before .before .before .before .before .pre .1 .1 .1) }
+
+add-t30 : tie.Need-add-t30
+add-t30 c = record { fits = omega (arith, c .before .before .before .before .before .before .walk .ensures .count, all-few (c .before .before .before .before .before .before .before .before .before .before .before .before .before .before .before .before .before), c .before .before .before .before .before .before .before .before .before .before .before .before .before .before .before .before .before .before .before .before .before .before .pre .1 .1 .1) }
+
+same-length-2 : tie.Need-same-length-2
+same-length-2 c = search needs
+
 returns-2 : tie.Need-returns-2
 returns-2 c =
-    let s = c .before .before .before .before .before .before .before .before .before .before .before .before .before .before .before .before .before .before in
-    let m = c .before .before .before .before .before .before .before .before .before .before .before .before .before .before in
-    let put = c .before .before .before .before .before .before .write-products in
-    let n = put .ensures .0 in
-    let room = c .before .before .before .before .before .before .before .before .before .before .before .measure .ensures .0 .enough (c .before .before .before .before .before .before .before .before .before .before .if1 .left) in
-    made-fine (s .args .table .now) (s .args .w) (s .args .list .now) (s .pre .0 .0) (s .pre .0 .1) (not-many s)
-    (ap (λ (k : ℕ). 8 + 2 * k) n ∙ all-words m) (omega (arith, n, room))
-    (list-written (s .args .table .now) (s .args .w) (s .args .list .now) (all-products m) n (m .before .meet-all .ensures .0) room (put .ensures .1) (c .before .before .write-header .ensures))
+    let s = c .before .before .before .before .before .before .before .before .before .before .before .before .before .before .before .before .before .before .before .before .before .before in
+    let m = c .before .before .before .before .before .before .before .before .before .before .before .before .before .before .before .before .before in
+    let put = c .before .before .before .before .before .before .walk in
+    let n : put .result ≡ length (all m) = omega (arith, put .ensures .count) in
+    let now = put .ensures .words ∙ ap (λ (l : List ℕ). sets l 8 (flatMap wordsOf (all m))) (c .before .before .before .before .before .before .before .before .before .before .before .before .before .measure .ensures .1) in
+    made-fine (s .args .table .now) (s .args .w) (s .args .list .now) (s .pre .0 .0) (s .pre .0 .1) (not-many s) (ap (λ (k : ℕ). 8 + 2 * k) n ∙ all-words m) (omega (arith, n, there (c .before .before .before .before .before .before .before .before .before .before)))
+    (list-written (s .args .table .now) (s .args .w) (s .args .list .now) (all-products m) n (s .pre .1 .0 .1) (there (c .before .before .before .before .before .before .before .before .before .before)) now (c .before .before .write-header .ensures))
 
 pub make-of-spec : {M : Type 1} → statement M
 make-of-spec =
     tie.close
     (tie.spec
-    meet-all-requires
     seen-in-requires
+    lay-requires
     measure-requires
-    returns
-    write-products-requires
-    write-header-requires
-    mul-t13
-    add-t26
     same-length
+    returns
+    walk-requires
+    write-header-requires
+    mul-t19
+    add-t30
+    same-length-2
     returns-2)

@@ -1,0 +1,5 @@
+pub mod Walks
+pub mod Rows
+pub mod Tracks
+pub mod Lines
+pub mod Laying

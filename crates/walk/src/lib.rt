@@ -1,0 +1,24 @@
+// The list of a zone by one walk over its plan. The plan is laid out as rows in the order of the walk; the walk carries what is chosen so far and
+// what that reaches, and goes into no part where nothing can be listed.
+mod fields;
+mod fill;
+mod making;
+mod repeats;
+mod steps;
+
+pub use making::lay;
+pub use steps::walk;
+
+// Where a walk stands: the row that it comes to, what is chosen so far, and what is still in reach.
+pub struct Place {
+    pub row: usize,
+    pub plain: u64,
+    pub cuts: u64,
+    pub reach: u64,
+}
+
+// Where a walk stops, and how many places are put aside then.
+pub struct Stop {
+    pub at: Place,
+    pub aside: usize,
+}
