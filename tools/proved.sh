@@ -51,7 +51,7 @@ show_progress() {
 build() {
     local kept=${program%/*} log=$root/target/$1.log
     for command in rt flock; do
-        [ -n "$(command -v $command)" ] || fail "the program is yet to be proved and built, and the command $command is not on the path (README.md, Quick start)"
+        [ -n "$(command -v $command)" ] || fail "the program is not built yet, and the command $command is not on the path (README.md, Quick start)"
     done
     mkdir -p "$kept" 2>/dev/null
     lock "$kept/lock"
