@@ -9,6 +9,8 @@
 #define MOST_CORNERS 10
 #define MOST_SAMPLES 1024
 #define MOST_PRODUCTS 3
+#define HEADER_WORDS 8
+#define PRODUCT_WORDS 2
 
 /* A trace runs straight from corner to corner, its columns rising; the rest of its corners is 0, 0. */
 struct corner {
@@ -24,7 +26,7 @@ struct trace {
 
 struct example {
     const char *file;
-    uint64_t products, product[MOST_PRODUCTS][2];
+    uint64_t products, product[MOST_PRODUCTS][PRODUCT_WORDS];
     const struct trace *trace;
     size_t traces;
 };
@@ -101,8 +103,9 @@ static int is_list_of(const struct example *example, struct lampholly_answer mad
     if (made.refusal || list[0] != example->products)
         return 0;
     for (size_t k = 0; k < example->products; k++)
-        if (list[8 + 2 * k] != example->product[k][0] || list[9 + 2 * k] != example->product[k][1])
-            return 0;
+        for (size_t word = 0; word < PRODUCT_WORDS; word++)
+            if (list[HEADER_WORDS + PRODUCT_WORDS * k + word] != example->product[k][word])
+                return 0;
     return 1;
 }
 

@@ -6,6 +6,11 @@ fail() {
     exit 2
 }
 
+# need COMMAND WHY
+need() {
+    [ -n "$(command -v "$1")" ] || fail "$2, and the command $1 is not on the path (README.md, Quick start)"
+}
+
 # crates_below NAME: a line of crates.txt for each crate that NAME builds on, NAME among them.
 crates_below() {
     awk -v wanted="$1" '
@@ -50,9 +55,8 @@ show_progress() {
 # build NAME STAMP: proves and builds $program, unless a call that was waited for did.
 build() {
     local kept=${program%/*} log=$root/target/$1.log
-    for command in rt flock; do
-        [ -n "$(command -v $command)" ] || fail "the program is not built yet, and the command $command is not on the path (README.md, Quick start)"
-    done
+    need rt "the program is not built yet"
+    need flock "the program is not built yet"
     mkdir -p "$kept" 2>/dev/null
     lock "$kept/lock"
     [ ! -x "$program" ] || return 0
@@ -70,4 +74,5 @@ prove_program() {
     program=$root/target/proved/$1-$stamp
     [ -x "$program" ] || build "$1" "$stamp"
     exec 9>&-
+    [ "$(uname -m)" = x86_64 ] || need rt "the program is for x86-64 and needs the kit's emulator here"
 }
