@@ -4,10 +4,10 @@
 /* Some primitive row of the table, NULL where none is to be had. */
 static const int32_t *some_primitive(const struct table *table)
 {
-    size_t rows = table->words / ROW_WORDS;
+    size_t rows = rows_in(table->words);
     for (int turn = 0; rows > 0 && turn < 8; turn++) {
-        const int32_t *row = table->word + ROW_WORDS * below(rows);
-        if (is_primitive(row))
+        const int32_t *row = table->word + table_words(below(rows));
+        if (is_primitive(row[KIND]))
             return row;
     }
     return NULL;
@@ -29,12 +29,11 @@ static int64_t near_bounds(int64_t lo, int64_t hi)
 
 int64_t any_aim(const struct table *table, int axis)
 {
-    int64_t lo[3], hi[3];
     const int32_t *row = some_primitive(table);
     if (row == NULL)
-        return between(LOWEST, HIGHEST);
-    bounds_of(row, lo, hi);
-    return near_bounds(lo[axis], hi[axis]);
+        return any_coordinate(axis);
+    struct box box = box_of(row);
+    return near_bounds(box.lo[axis], box.hi[axis]);
 }
 
 static int64_t floor_divided(int64_t value, int64_t by)
@@ -44,28 +43,28 @@ static int64_t floor_divided(int64_t value, int64_t by)
 }
 
 /* Moves the spot along one axis to the wedge's plane, or to just beside it. */
-static void to_plane(const int32_t *row, int64_t spot[3])
+static void to_plane(const int32_t *row, int64_t spot[AXES])
 {
-    int moved = (int)below(3);
-    int64_t rest = row[10];
-    if (row[7 + moved] == 0)
+    int moved = (int)below(AXES);
+    int64_t rest = row[LIMIT];
+    if (row[SLOPE + moved] == 0)
         return;
-    for (int axis = 0; axis < 3; axis++)
+    for (int axis = X; axis < AXES; axis++)
         if (axis != moved)
-            rest -= row[7 + axis] * spot[axis];
-    spot[moved] = floor_divided(rest, row[7 + moved]) + between(-1, 1);
+            rest -= row[SLOPE + axis] * spot[axis];
+    spot[moved] = floor_divided(rest, row[SLOPE + moved]) + between(-1, 1);
 }
 
 static int in_round(const int32_t *row, int64_t dx, int64_t dy)
 {
-    int64_t rx = row[3], ry = row[4];
+    int64_t rx = row[RADIUS + X], ry = row[RADIUS + Y];
     return ry * ry * dx * dx + rx * rx * dy * dy <= rx * rx * ry * ry;
 }
 
 /* Moves the spot to the drum's rim, or to just outside it. */
-static void to_rim(const int32_t *row, int64_t spot[3])
+static void to_rim(const int32_t *row, int64_t spot[AXES])
 {
-    int64_t dx = between(-row[3], row[3]), inside = 0, outside = (int64_t)row[4] + 1;
+    int64_t dx = between(-row[RADIUS + X], row[RADIUS + X]), inside = 0, outside = (int64_t)row[RADIUS + Y] + 1;
     while (outside - inside > 1) {
         int64_t middle = (inside + outside) / 2;
         if (in_round(row, dx, middle))
@@ -74,29 +73,33 @@ static void to_rim(const int32_t *row, int64_t spot[3])
             outside = middle;
     }
     int64_t dy = inside + (one_in(2) ? 1 : 0);
-    spot[0] = row[1] + dx;
-    spot[1] = row[2] + (one_in(2) ? dy : -dy);
+    spot[X] = row[CENTRE + X] + dx;
+    spot[Y] = row[CENTRE + Y] + (one_in(2) ? dy : -dy);
+}
+
+static int is_radius(int32_t value)
+{
+    return LEAST_RADIUS <= value && value <= GREATEST_RADIUS;
 }
 
 static int has_round_rim(const int32_t *row)
 {
-    return row[0] == DRUM && 1 <= row[3] && row[3] <= 4096 && 1 <= row[4] && row[4] <= 4096;
+    return row[KIND] == DRUM && is_radius(row[RADIUS + X]) && is_radius(row[RADIUS + Y]);
 }
 
 /* A spot by one primitive: a corner, an edge, a face, one past them, or somewhere in between. */
-static void aim_at(const struct table *table, int64_t spot[3])
+static void aim_at(const struct table *table, int64_t spot[AXES])
 {
-    int64_t lo[3], hi[3];
     const int32_t *row = some_primitive(table);
     if (row == NULL || one_in(16)) {
-        for (int axis = 0; axis < 3; axis++)
-            spot[axis] = between(LOWEST, HIGHEST);
+        for (int axis = X; axis < AXES; axis++)
+            spot[axis] = any_coordinate(axis);
         return;
     }
-    bounds_of(row, lo, hi);
-    for (int axis = 0; axis < 3; axis++)
-        spot[axis] = clamped(near_bounds(lo[axis], hi[axis]), LOWEST - 1, HIGHEST + 1);
-    if (row[0] == WEDGE && one_in(2))
+    struct box box = box_of(row);
+    for (int axis = X; axis < AXES; axis++)
+        spot[axis] = clamped(near_bounds(box.lo[axis], box.hi[axis]), limits[axis].least - 1, limits[axis].greatest + 1);
+    if (row[KIND] == WEDGE && one_in(2))
         to_plane(row, spot);
     if (has_round_rim(row) && one_in(2))
         to_rim(row, spot);
@@ -104,52 +107,55 @@ static void aim_at(const struct table *table, int64_t spot[3])
 
 /* Windows. */
 
-static void to_bounds(struct lampholly_window window, int32_t bound[6])
+static void to_bounds(struct lampholly_window window, int32_t bound[BOUNDS])
 {
-    const int32_t in_order[6] = {window.xlo, window.xhi, window.ylo, window.yhi, window.zlo, window.zhi};
-    for (int i = 0; i < 6; i++)
+    const int32_t in_order[BOUNDS] = {window.xlo, window.xhi, window.ylo, window.yhi, window.zlo, window.zhi};
+    for (int i = 0; i < BOUNDS; i++)
         bound[i] = in_order[i];
 }
 
-static struct lampholly_window from_bounds(const int32_t bound[6])
+static struct lampholly_window from_bounds(const int32_t bound[BOUNDS])
 {
-    struct lampholly_window window = {bound[0], bound[1], bound[2], bound[3], bound[4], bound[5]};
+    struct lampholly_window window = {bound[LO(X)], bound[HI(X)], bound[LO(Y)], bound[HI(Y)], bound[LO(Z)], bound[HI(Z)]};
     return window;
 }
 
-static int64_t off_range(void)
+/* Just past an end of the axis, or far past it. */
+static int64_t off_range(int axis)
 {
-    return ONE_OF(LOWEST - 1, HIGHEST + 1, LOWEST - 1, HIGHEST + 1, INT32_MIN, INT32_MAX, 65535, 65536, -65536);
+    int64_t below_least = (int64_t)limits[axis].least - 1, above_greatest = (int64_t)limits[axis].greatest + 1;
+    int64_t words = (int64_t)greatest_word(axis) + 1;
+    return ONE_OF(below_least, above_greatest, below_least, above_greatest, INT32_MIN, INT32_MAX, words - 1, words, -words);
 }
 
-static void put_axis(const struct table *table, int axis, int32_t lo_hi[2])
+static void put_axis(const struct table *table, int axis, int32_t bound[BOUNDS])
 {
-    int64_t one = clamped(any_aim(table, axis), LOWEST, HIGHEST);
-    int64_t other = one_in(6) ? one : clamped(any_aim(table, axis), LOWEST, HIGHEST);
+    int64_t one = in_range(axis, any_aim(table, axis));
+    int64_t other = one_in(6) ? one : in_range(axis, any_aim(table, axis));
     if (one_in(2)) {
-        one = LOWEST;
-        other = HIGHEST;
+        one = limits[axis].least;
+        other = limits[axis].greatest;
     }
-    lo_hi[0] = (int32_t)(one < other ? one : other);
-    lo_hi[1] = (int32_t)(one < other ? other : one);
+    bound[LO(axis)] = (int32_t)(one < other ? one : other);
+    bound[HI(axis)] = (int32_t)(one < other ? other : one);
 }
 
 /* A bound that leaves the range, or hi below lo. */
-static void damage_bound(int32_t bound[6])
+static void damage_bound(int32_t bound[BOUNDS])
 {
-    int at = (int)below(6);
+    int at = (int)below(BOUNDS), axis = at / 2;
     if (one_in(2))
-        bound[at] = (int32_t)off_range();
-    else if (bound[at & ~1] > INT32_MIN)
-        bound[at | 1] = bound[at & ~1] - 1;
+        bound[at] = (int32_t)off_range(axis);
+    else if (bound[LO(axis)] > INT32_MIN)
+        bound[HI(axis)] = bound[LO(axis)] - 1;
 }
 
 struct lampholly_window any_window(const struct table *table)
 {
-    int32_t bound[6] = {LOWEST, HIGHEST, LOWEST, HIGHEST, LOWEST, HIGHEST};
+    int32_t bound[BOUNDS] = {FULL_RANGE};
     if (!one_in(4))
-        for (int axis = 0; axis < 3; axis++)
-            put_axis(table, axis, bound + 2 * axis);
+        for (int axis = X; axis < AXES; axis++)
+            put_axis(table, axis, bound);
     while (one_in(8))
         damage_bound(bound);
     return from_bounds(bound);
@@ -158,12 +164,12 @@ struct lampholly_window any_window(const struct table *table)
 /* The window that the list carries, as far as it is one; else the full range. */
 struct lampholly_window window_of(const struct list *list)
 {
-    int32_t bound[6] = {LOWEST, HIGHEST, LOWEST, HIGHEST, LOWEST, HIGHEST};
-    for (int axis = 0; list->words >= 8 && axis < 3; axis++) {
-        uint64_t lo = list->word[1 + 2 * axis], hi = list->word[2 + 2 * axis];
-        if (lo <= hi && hi <= 65535) {
-            bound[2 * axis] = (int32_t)lo + LOWEST;
-            bound[2 * axis + 1] = (int32_t)hi + LOWEST;
+    int32_t bound[BOUNDS] = {FULL_RANGE};
+    for (int axis = X; list->words >= HEADER_WORDS && axis < AXES; axis++) {
+        uint64_t lo = list->word[LIST_BOUND + LO(axis)], hi = list->word[LIST_BOUND + HI(axis)];
+        if (lo <= hi && hi <= greatest_word(axis)) {
+            bound[LO(axis)] = (int32_t)lowered(axis, lo);
+            bound[HI(axis)] = (int32_t)lowered(axis, hi);
         }
     }
     return from_bounds(bound);
@@ -174,20 +180,20 @@ struct lampholly_window window_of(const struct list *list)
 /* Mostly in the window; sometimes just out of it, sometimes out of the range. */
 struct point any_point(const struct table *table, struct lampholly_window window)
 {
-    int64_t spot[3];
-    int32_t bound[6];
+    int64_t spot[AXES];
+    int32_t bound[BOUNDS];
     struct point point;
     int stays = !one_in(4);
     to_bounds(window, bound);
     aim_at(table, spot);
     if (one_in(8))
-        for (int axis = 0; axis < 3; axis++)
-            spot[axis] = near_bounds(bound[2 * axis], bound[2 * axis + 1]);
-    for (int axis = 0; axis < 3; axis++) {
+        for (int axis = X; axis < AXES; axis++)
+            spot[axis] = near_bounds(bound[LO(axis)], bound[HI(axis)]);
+    for (int axis = X; axis < AXES; axis++) {
         if (stays)
-            spot[axis] = clamped(spot[axis], bound[2 * axis], bound[2 * axis + 1]);
+            spot[axis] = clamped(spot[axis], bound[LO(axis)], bound[HI(axis)]);
         if (one_in(40))
-            spot[axis] = off_range();
+            spot[axis] = off_range(axis);
         point.at[axis] = (int32_t)clamped(spot[axis], INT32_MIN, INT32_MAX);
     }
     return point;

@@ -192,11 +192,23 @@ static void print_work(const struct work *work)
                all[0] / all[r], all[0] / part[0], all[r] / part[r], whole.work / half.work);
 }
 
-int main(int argc, char **argv)
+static void print_head(void)
 {
     printf("%-46s %-24s %9s %9s %7s %7s %7s %7s\n", "work", "peer", "ours us", "peer us", "ratio", "growth", "peer's", "work's");
-    for (size_t i = 0; i < sizeof works / sizeof works[0]; i++)
-        if (argc < 2 || strstr(works[i].name, argv[1]) != NULL)
-            print_work(&works[i]);
-    return 0;
+}
+
+int main(int argc, char **argv)
+{
+    const char *part = argc > 1 ? argv[1] : "";
+    int measured = 0;
+    for (size_t i = 0; i < sizeof works / sizeof works[0]; i++) {
+        if (strstr(works[i].name, part) == NULL)
+            continue;
+        if (measured++ == 0)
+            print_head();
+        print_work(&works[i]);
+    }
+    if (measured == 0)
+        printf("bench: no work has \"%s\" in its name\n", part);
+    return measured == 0 ? 2 : 0;
 }

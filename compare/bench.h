@@ -15,7 +15,7 @@ struct load {
     struct table zone[MOST_ZONES];
     struct lampholly_window window;
     size_t list_words;
-    uint64_t list[8 + 2 * 128];
+    uint64_t list[HEADER_WORDS + PRODUCT_WORDS * 128];
     size_t frames, samples;
     int32_t first;
     int16_t code[MOST_FRAMES * SCREEN_COLUMNS];

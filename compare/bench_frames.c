@@ -1,17 +1,19 @@
 /* Frames that are searched and texts that are read and written in the benchmark. */
 #include "bench.h"
 
-static const struct lampholly_window full = {LOWEST, HIGHEST, LOWEST, HIGHEST, LOWEST, HIGHEST};
+static const struct lampholly_window full = {FULL_RANGE};
 
 /* Three products of two, three and four primitives, which hold most codes about 10,000. */
 static void put_few(struct table *t)
 {
-    t->words = 0;
-    int32_t one = add_operation(t, INTER, add_box(t, LOWEST, -9000, 8000, 12000), add_wedge(t, LOWEST, -8000, 7000, 13000, 1, 2, 20000));
+    t->words = table_words(0);
+    int32_t one = add_operation(t, INTER, add_box(t, LEAST_COLUMN, -9000, 8000, 12000),
+                                add_wedge(t, LEAST_COLUMN, -8000, 7000, 13000, 1, 2, 20000));
     int32_t two = add_operation(t, DIFF, add_box(t, -9500, 9500, 9000, 14000), add_drum(t, 0, 13000, 900, 700));
     two = add_operation(t, DIFF, two, add_box(t, 1000, 1400, 9000, 14000));
-    int32_t three = add_operation(t, INTER, add_box(t, 9000, HIGHEST, 7000, 13000), add_box(t, 8000, HIGHEST, 7500, 12500));
-    three = add_operation(t, INTER, three, add_wedge(t, 9000, HIGHEST, 7000, 13000, -1, 2, 20000));
+    int32_t three = add_operation(t, INTER, add_box(t, 9000, GREATEST_COLUMN, 7000, 13000),
+                                  add_box(t, 8000, GREATEST_COLUMN, 7500, 12500));
+    three = add_operation(t, INTER, three, add_wedge(t, 9000, GREATEST_COLUMN, 7000, 13000, -1, 2, 20000));
     three = add_operation(t, DIFF, three, add_drum(t, 20000, 9000, 500, 900));
     add_operation(t, UNION, add_operation(t, UNION, one, two), three);
 }
@@ -21,7 +23,7 @@ static int32_t add_grid(struct table *t, int32_t xlo, int32_t xhi, int32_t strip
 {
     int32_t across = -1, up = -1, width = (xhi - xlo + 1) / stripes, height = 10000 / bands;
     for (int32_t i = 0; i < stripes; i++) {
-        int32_t box = add_box(t, xlo + i * width, i == stripes - 1 ? xhi : xlo + (i + 1) * width - 1, LOWEST, HIGHEST);
+        int32_t box = add_box(t, xlo + i * width, i == stripes - 1 ? xhi : xlo + (i + 1) * width - 1, ALL_CODES);
         across = across < 0 ? box : add_operation(t, UNION, across, box);
     }
     for (int32_t i = 0; i < bands; i++) {
@@ -44,8 +46,8 @@ static int32_t add_small(struct table *t, int32_t i)
 /* 5 x 5 and 3 x 12 rectangles and 39 small shapes: 100 products over 64 primitives. */
 static void put_many(struct table *t)
 {
-    t->words = 0;
-    int32_t all = add_operation(t, UNION, add_grid(t, LOWEST, -1, 5, 5), add_grid(t, 0, HIGHEST, 3, 12));
+    t->words = table_words(0);
+    int32_t all = add_operation(t, UNION, add_grid(t, LEAST_COLUMN, -1, 5, 5), add_grid(t, 0, GREATEST_COLUMN, 3, 12));
     for (int32_t i = 0; i < 39; i++)
         all = add_operation(t, UNION, all, add_small(t, i));
 }
@@ -84,8 +86,8 @@ void build_frame(struct load *load, int manner, int is_half)
 {
     put_zone(load, manner & 1);
     load->frames = 1;
-    load->samples = is_half ? 32768 : 65536;
-    load->first = is_half ? -16384 : LOWEST;
+    load->samples = is_half ? MOST_SAMPLES / 2 : MOST_SAMPLES;
+    load->first = is_half ? LEAST_COLUMN / 2 : LEAST_COLUMN;
     put_codes(load, manner & ~1);
 }
 
@@ -106,11 +108,11 @@ void build_text(struct load *load, int manner, int is_half)
     int32_t shapes = is_half ? 32 : 64, all = -1;
     (void)manner;
     load->zones = 1;
-    table->words = 0;
+    table->words = table_words(0);
     for (int32_t i = 0; i < shapes; i++) {
         int32_t small = add_small(table, i % 40);
         all = all < 0 ? small : add_operation(table, (int32_t)(UNION + i % 3), all, small);
     }
     text_of(&load->text, table);
-    load->work = (double)(table->words / ROW_WORDS);
+    load->work = (double)rows_in(table->words);
 }

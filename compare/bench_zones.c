@@ -3,27 +3,27 @@
 
 #include "bench.h"
 
-static const struct lampholly_window full = {LOWEST, HIGHEST, LOWEST, HIGHEST, LOWEST, HIGHEST};
+static const struct lampholly_window full = {FULL_RANGE};
 
 static int32_t *new_row(struct table *table, int32_t kind)
 {
     int32_t *row = table->word + table->words;
     memset(row, 0, ROW_WORDS * sizeof row[0]);
-    row[0] = kind;
+    row[KIND] = kind;
     table->words += ROW_WORDS;
     return row;
 }
 
 static int32_t last_row(const struct table *table)
 {
-    return (int32_t)(table->words / ROW_WORDS) - 1;
+    return (int32_t)rows_in(table->words) - 1;
 }
 
 /* All frames up to the newest. */
 static void put_bounds(int32_t *row, int32_t xlo, int32_t xhi, int32_t ylo, int32_t yhi)
 {
-    const int32_t bound[6] = {xlo, xhi, ylo, yhi, LOWEST, 0};
-    memcpy(row + 1, bound, sizeof bound);
+    const int32_t bound[BOUNDS] = {xlo, xhi, ylo, yhi, LEAST_FRAME, 0};
+    memcpy(row + BOUND, bound, sizeof bound);
 }
 
 int32_t add_box(struct table *table, int32_t xlo, int32_t xhi, int32_t ylo, int32_t yhi)
@@ -36,9 +36,9 @@ int32_t add_wedge(struct table *table, int32_t xlo, int32_t xhi, int32_t ylo, in
 {
     int32_t *row = new_row(table, WEDGE);
     put_bounds(row, xlo, xhi, ylo, yhi);
-    row[7] = a;
-    row[8] = b;
-    row[10] = d;
+    row[SLOPE + X] = a;
+    row[SLOPE + Y] = b;
+    row[LIMIT] = d;
     return last_row(table);
 }
 
@@ -51,15 +51,15 @@ int32_t add_drum(struct table *table, int32_t cx, int32_t cy, int32_t rx, int32_
 int32_t add_operation(struct table *table, int32_t operation, int32_t left, int32_t right)
 {
     int32_t *row = new_row(table, operation);
-    row[1] = left;
-    row[2] = right;
+    row[LEFT] = left;
+    row[RIGHT] = right;
     return last_row(table);
 }
 
 static void start_zone(struct load *load)
 {
     load->zones = 1;
-    load->zone[0].words = 0;
+    load->zone[0].words = table_words(0);
     load->window = full;
 }
 
@@ -90,7 +90,7 @@ void build_unions(struct load *load, int manner, int is_half)
     }
     if (manner == WINDOW_MISSES)
         load->window.xlo = 20000;
-    load->work = is_half ? 32768 : 65536;
+    load->work = is_half ? MOST_CHOICES / 2 : MOST_CHOICES;
 }
 
 /* A box less the intersection of its cuts: as many choices as cuts. */
@@ -125,7 +125,7 @@ struct branch {
 
 static int32_t add_strewn_box(struct table *table)
 {
-    int32_t x = (int32_t)between(LOWEST, HIGHEST - 12000), y = (int32_t)between(LOWEST, HIGHEST - 12000);
+    int32_t x = (int32_t)between(LEAST_COLUMN, GREATEST_COLUMN - 12000), y = (int32_t)between(LEAST_CODE, GREATEST_CODE - 12000);
     return add_box(table, x, x + (int32_t)between(2000, 12000), y, y + (int32_t)between(2000, 12000));
 }
 
@@ -143,7 +143,7 @@ static double grow_sparse(struct table *table, int primitives)
 {
     struct branch open[MOST_PRIMITIVES];
     int count = 0;
-    table->words = 0;
+    table->words = table_words(0);
     for (; count < primitives; count++) {
         struct branch one = {add_strewn_box(table), 1, 1};
         open[count] = one;

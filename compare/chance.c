@@ -48,6 +48,16 @@ int64_t clamped(int64_t value, int64_t lo, int64_t hi)
     return value < lo ? lo : value > hi ? hi : value;
 }
 
+int64_t any_coordinate(int axis)
+{
+    return between(limits[axis].least, limits[axis].greatest);
+}
+
+int64_t in_range(int axis, int64_t value)
+{
+    return clamped(value, limits[axis].least, limits[axis].greatest);
+}
+
 void fill(void *bytes, size_t count)
 {
     unsigned char *at = bytes;

@@ -7,7 +7,7 @@
 /* From so many cases on, every answer and refusal of every call must have been seen. */
 #define MANY_CASES 5000
 
-static const struct lampholly_window full = {LOWEST, HIGHEST, LOWEST, HIGHEST, LOWEST, HIGHEST};
+static const struct lampholly_window full = {FULL_RANGE};
 
 /* The zone of the case, a damaged copy or the same, and another zone. */
 static struct table zone, lent_zone, other_zone;
@@ -41,7 +41,7 @@ static struct plain_answer make_list(const struct table *table, struct lampholly
 static void ask_make_list(struct lampholly_window window)
 {
     struct plain_answer made = make_list(&lent_zone, window);
-    size_t needed = made.refusal == 0 ? made.value : 8;
+    size_t needed = made.refusal == 0 ? made.value : HEADER_WORDS;
     struct question make = {.call = MAKE_LIST, .table = &lent_zone, .window = window};
     make.room = any_room(needed, LIST_ROOM);
     ask(make);
@@ -63,7 +63,7 @@ static void any_list(struct lampholly_window window)
     }
     if (list.words == 0 && !one_in(8))
         make_list(&zone, full);
-    if (list.words >= 8 && one_in(3))
+    if (list.words >= HEADER_WORDS && one_in(3))
         damage_list(&list);
 }
 

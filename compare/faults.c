@@ -5,13 +5,18 @@
 
 /* Tables. */
 
-static int32_t any_bad_word(int32_t now)
+static int32_t any_bad_word(const int32_t *row, size_t at)
 {
+    const struct axis_limits *end = &limits[at == BOUND + LO(Z) || at == BOUND + HI(Z) ? Z : X];
+    int32_t now = row[at];
     switch (below(8)) {
     case 0: return (int32_t)clamped((int64_t)now + between(-1, 1), INT32_MIN, INT32_MAX);
-    case 1: return (int32_t)ONE_OF(INT32_MIN, INT32_MAX, INT32_MIN + 1, INT32_MAX - 32768);
-    case 2: return (int32_t)ONE_OF(LOWEST - 1, LOWEST, HIGHEST, HIGHEST + 1);
-    case 3: return (int32_t)ONE_OF(0, 1, 4096, 4097, -1, 28671, 28672, -28672, -28673);
+    case 1: return (int32_t)ONE_OF(INT32_MIN, INT32_MAX, INT32_MIN + 1, INT32_MAX - end->offset);
+    case 2: return (int32_t)ONE_OF(end->least - 1, end->least, end->greatest, end->greatest + 1);
+    case 3:
+        return (int32_t)ONE_OF(0, 1, GREATEST_RADIUS, GREATEST_RADIUS + 1, -1,
+                               end->greatest - GREATEST_RADIUS, end->greatest - GREATEST_RADIUS + 1,
+                               end->least + GREATEST_RADIUS, end->least + GREATEST_RADIUS - 1);
     case 4: return (int32_t)between(-2, 7);
     case 5: return (int32_t)clamped(-(int64_t)now, INT32_MIN, INT32_MAX);
     default: return (int32_t)between(INT32_MIN, INT32_MAX);
@@ -20,14 +25,14 @@ static int32_t any_bad_word(int32_t now)
 
 static int32_t *some_row(struct table *table)
 {
-    return table->word + ROW_WORDS * below(table->words / ROW_WORDS);
+    return table->word + table_words(below(rows_in(table->words)));
 }
 
 static int32_t *some_operation(struct table *table)
 {
     for (int turn = 0; turn < 16; turn++) {
         int32_t *row = some_row(table);
-        if (UNION <= row[0] && row[0] <= DIFF)
+        if (is_operation(row[KIND]))
             return row;
     }
     return some_row(table);
@@ -45,15 +50,15 @@ static void swap_rows(struct table *table)
 static void damage_child(struct table *table)
 {
     int32_t *row = some_operation(table);
-    int64_t number = (row - table->word) / ROW_WORDS;
-    int side = 1 + (int)below(2);
-    row[side] = (int32_t)ONE_OF(number, number + 1, -1, INT32_MIN, row[3 - side], 0, number - 1, between(0, number));
+    int64_t number = (int64_t)rows_in((size_t)(row - table->word));
+    int side = LEFT + (int)below(2), sibling = LEFT + RIGHT - side;
+    row[side] = (int32_t)ONE_OF(number, number + 1, -1, INT32_MIN, row[sibling], 0, number - 1, between(0, number));
 }
 
 static void damage_spare_word(struct table *table)
 {
     int32_t *row = some_row(table);
-    size_t spare = 1 + fields_of(row[0]);
+    size_t spare = 1 + fields_of(row[KIND]);
     row[spare + below(ROW_WORDS - spare)] = (int32_t)ONE_OF(1, -1, INT32_MIN, 65536);
 }
 
@@ -62,7 +67,7 @@ static int32_t *some_ruled_row(struct table *table)
 {
     for (int turn = 0; turn < 8; turn++) {
         int32_t *row = some_row(table);
-        if (row[0] == DRUM || (row[0] == WEDGE && turn > 3))
+        if (row[KIND] == DRUM || (row[KIND] == WEDGE && turn > 3))
             return row;
     }
     return some_row(table);
@@ -73,27 +78,29 @@ static void try_rule(struct table *table)
 {
     int32_t *row = some_ruled_row(table);
     int64_t past = (int64_t)below(2);
-    size_t axis = below(3), lo = 1 + 2 * axis, round = below(2);
-    if (row[0] == DRUM && one_in(2))
-        row[3 + round] = (int32_t)ONE_OF(0, 4096 + past, -1);
-    else if (row[0] == DRUM && one_in(2))
-        row[1 + round] = (int32_t)(one_in(2) ? LOWEST + (int64_t)row[3 + round] - past : HIGHEST - (int64_t)row[3 + round] + past);
-    else if (row[0] == WEDGE && one_in(3))
-        row[7] = row[8] = row[9] = 0;
-    else if (row[0] == WEDGE && one_in(2))
-        row[7 + axis] = (int32_t)(one_in(2) ? LOWEST - past : HIGHEST + past);
-    else if (is_primitive(row) && one_in(2))
-        row[lo] = (int32_t)clamped((int64_t)row[lo + 1] + past, INT32_MIN, INT32_MAX);
-    else if (is_primitive(row))
-        row[lo + round] = (int32_t)(round == 0 ? LOWEST - past : HIGHEST + past);
+    int axis = (int)below(AXES), side = (int)below(2); /* of a drum the side is the axis of a radius */
+    int64_t radius = row[RADIUS + side];
+    if (row[KIND] == DRUM && one_in(2))
+        row[RADIUS + side] = (int32_t)ONE_OF(LEAST_RADIUS - 1, GREATEST_RADIUS + past, -1);
+    else if (row[KIND] == DRUM && one_in(2))
+        row[CENTRE + side] = (int32_t)(one_in(2) ? limits[side].least + radius - past : limits[side].greatest - radius + past);
+    else if (row[KIND] == WEDGE && one_in(3))
+        row[SLOPE + X] = row[SLOPE + Y] = row[SLOPE + Z] = 0;
+    else if (row[KIND] == WEDGE && one_in(2))
+        row[SLOPE + axis] = (int32_t)(one_in(2) ? LEAST_SLOPE - past : GREATEST_SLOPE + past);
+    else if (is_primitive(row[KIND]) && one_in(2))
+        row[BOUND + LO(axis)] = (int32_t)clamped((int64_t)row[BOUND + HI(axis)] + past, INT32_MIN, INT32_MAX);
+    else if (is_primitive(row[KIND]))
+        row[BOUND + LO(axis) + side] = (int32_t)(side == 0 ? limits[axis].least - past : limits[axis].greatest + past);
 }
 
 /* With 256 rows and one more, a count of rows in 8 bits wraps to none and to one. */
 static void change_length(struct table *table)
 {
     size_t words = table->words, most = TABLE_ROOM;
-    size_t wanted = (size_t)ONE_OF(0, 1, 11, (int64_t)words - 1, (int64_t)words + 1, (int64_t)words - 12, (int64_t)words + 12,
-                                   12 * 127, 12 * 127 - 1, 12 * 128, 12 * 129, 12 * 256, 12 * 257, (int64_t)below(most));
+    int64_t row = ROW_WORDS, now = (int64_t)words, full = MOST_TABLE_WORDS;
+    size_t wanted = (size_t)ONE_OF(0, 1, row - 1, now - 1, now + 1, now - row, now + row, full, full - 1, full + row,
+                                   full + 2 * row, (int64_t)table_words(256), (int64_t)table_words(257), (int64_t)below(most));
     for (size_t at = words; at < wanted; at++)
         table->word[at] = one_in(2) ? 0 : table->word[at - ROW_WORDS];
     table->words = wanted;
@@ -107,11 +114,11 @@ static void damage_row(struct table *table)
     switch (below(10)) {
     case 0: swap_rows(table); break;
     case 1: damage_spare_word(table); break;
-    case 2: row[0] = (int32_t)ONE_OF(6, 7, -1, INT32_MIN, INT32_MAX, between(0, 5)); break;
+    case 2: row[KIND] = (int32_t)ONE_OF(KINDS, KINDS + 1, -1, INT32_MIN, INT32_MAX, between(0, KINDS - 1)); break;
     case 3: case 4: damage_child(table); break;
     case 5: case 6: try_rule(table); break;
-    case 7: at = 1 + below(fields_of(row[0])); row[at] = any_bad_word(row[at]); break;
-    default: row[at] = any_bad_word(row[at]); break;
+    case 7: at = 1 + below(fields_of(row[KIND])); row[at] = any_bad_word(row, at); break;
+    default: row[at] = any_bad_word(row, at); break;
     }
 }
 
@@ -130,7 +137,7 @@ void damage_table(struct table *table)
 
 static uint64_t any_bit(void)
 {
-    return (uint64_t)1 << below(64);
+    return (uint64_t)1 << below(MOST_PRIMITIVES);
 }
 
 static uint64_t any_bad_list_word(uint64_t now)
@@ -140,34 +147,47 @@ static uint64_t any_bad_list_word(uint64_t now)
     case 1: return now - 1;
     case 2: return 0;
     case 3: return now ^ any_bit();
-    case 4: return (uint64_t)ONE_OF(65535, 65536, 65537, 64, 65, 63, 1);
+    case 4:
+        return (uint64_t)ONE_OF(MOST_PRODUCTS - 1, MOST_PRODUCTS, MOST_PRODUCTS + 1, MOST_PRIMITIVES, MOST_PRIMITIVES + 1,
+                                MOST_PRIMITIVES - 1, 1);
     case 5: return UINT64_MAX >> below(64);
     case 6: return now + ((uint64_t)1 << 32);
     default: return any();
     }
 }
 
+static uint64_t *some_product(struct list *list, size_t products)
+{
+    return list->word + list_words(below(products));
+}
+
 static void swap_products(struct list *list, size_t products)
 {
-    uint64_t *one = list->word + 8 + 2 * below(products), *other = list->word + 8 + 2 * below(products);
-    for (int side = 0; side < 2; side++) {
-        uint64_t kept = one[side];
-        one[side] = other[side];
-        other[side] = kept;
+    uint64_t *one = some_product(list, products), *other = some_product(list, products);
+    for (int word = 0; word < PRODUCT_WORDS; word++) {
+        uint64_t kept = one[word];
+        one[word] = other[word];
+        other[word] = kept;
     }
+}
+
+/* The bit of this primitive, none past the last. */
+static uint64_t bit(uint64_t primitive)
+{
+    return primitive < MOST_PRIMITIVES ? (uint64_t)1 << primitive : 0;
 }
 
 /* A bit at or past the number of primitives, one in both words, none at all. */
 static void damage_product(struct list *list, size_t products)
 {
-    uint64_t *product = list->word + 8 + 2 * below(products);
-    uint64_t primitives = list->word[7];
+    uint64_t *product = some_product(list, products);
+    uint64_t primitives = list->word[LIST_PRIMITIVES];
     switch (below(6)) {
-    case 0: product[below(2)] |= (uint64_t)1 << (primitives < 64 ? primitives : below(64)); break;
-    case 1: product[1] |= product[0] & (any() | any()); break;
-    case 2: product[0] = 0; break;
-    case 3: product[1] &= any(); break;
-    case 4: product[0] |= any() & ~product[1] & ((primitives < 64 ? (uint64_t)1 << primitives : 0) - 1); break;
+    case 0: product[below(2)] |= primitives < MOST_PRIMITIVES ? bit(primitives) : any_bit(); break;
+    case 1: product[COMPLEMENTED] |= product[UNCOMPLEMENTED] & (any() | any()); break;
+    case 2: product[UNCOMPLEMENTED] = 0; break;
+    case 3: product[COMPLEMENTED] &= any(); break;
+    case 4: product[UNCOMPLEMENTED] |= any() & ~product[COMPLEMENTED] & (bit(primitives) - 1); break;
     default: swap_products(list, products); break;
     }
 }
@@ -190,37 +210,42 @@ static void change_list_length(struct list *list)
 /* As many products as the rules let pass, or one more: the first one over and over. */
 static void fill_list(struct list *list)
 {
-    size_t products = (size_t)between(65536, 65537);
-    for (size_t word = 10; word < 8 + 2 * products; word++)
-        list->word[word] = list->word[word - 2];
-    list->word[0] = products;
-    list->words = 8 + 2 * products;
+    size_t products = (size_t)between(MOST_PRODUCTS, MOST_PRODUCTS + 1);
+    for (size_t word = list_words(1); word < list_words(products); word++)
+        list->word[word] = list->word[word - PRODUCT_WORDS];
+    list->word[LIST_PRODUCTS] = products;
+    list->words = list_words(products);
 }
 
-/* Says a number of products that the rules or the length may not hold; with the last two, 8 + 2 * count wraps. */
+/* Says a number of products that the rules or the length may not hold; with the last two, their words wrap. */
 static void change_product_count(struct list *list)
 {
-    uint64_t holds = (list->words - 8) / 2;
-    list->word[0] = (uint64_t)ONE_OF(0, 65536, 65537, (int64_t)holds, (int64_t)holds + 1, (int64_t)below(holds + 1),
-                                     -1, INT64_MIN, INT64_MAX - 3);
+    uint64_t holds = products_in(list->words);
+    list->word[LIST_PRODUCTS] = (uint64_t)ONE_OF(0, MOST_PRODUCTS, MOST_PRODUCTS + 1, (int64_t)holds, (int64_t)holds + 1,
+                                                 (int64_t)below(holds + 1), -1, INT64_MIN, INT64_MAX - 3);
 }
 
 static void change_window(struct list *list)
 {
-    size_t lo = 1 + 2 * below(3);
-    list->word[lo] = below(65536);
-    list->word[lo + 1] = one_in(4) ? list->word[lo] - 1 : list->word[lo] + below(65536 - list->word[lo]);
+    int axis = (int)below(AXES);
+    uint64_t *lo = &list->word[LIST_BOUND + LO(axis)], *hi = &list->word[LIST_BOUND + HI(axis)];
+    *lo = below(greatest_word(axis) + 1);
+    *hi = one_in(4) ? *lo - 1 : *lo + below(greatest_word(axis) + 1 - *lo);
 }
 
-/* Needs a list of 8 words or more whose word 0 its length holds. */
+/* Needs a list with a header whose number of products its length holds. */
 static void damage_list_once(struct list *list)
 {
-    size_t products = list->word[0] <= (list->words - 8) / 2 ? list->word[0] : 0, at = below(8);
+    uint64_t said = list->word[LIST_PRODUCTS], *primitives = &list->word[LIST_PRIMITIVES];
+    size_t products = said <= products_in(list->words) ? said : 0, at = below(HEADER_WORDS);
     switch (below(6)) {
     case 0: list->word[at] = any_bad_list_word(list->word[at]); break;
     case 1: change_product_count(list); break;
     case 2: change_window(list); break;
-    case 3: list->word[7] = (uint64_t)ONE_OF(0, 1, 63, 64, 65, (int64_t)list->word[7] + 1, (int64_t)list->word[7] - 1); break;
+    case 3:
+        *primitives = (uint64_t)ONE_OF(0, 1, MOST_PRIMITIVES - 1, MOST_PRIMITIVES, MOST_PRIMITIVES + 1, (int64_t)*primitives + 1,
+                                       (int64_t)*primitives - 1);
+        break;
     case 4: at = below(list->words); list->word[at] = any_bad_list_word(list->word[at]); break;
     default:
         if (products > 0)
@@ -230,7 +255,7 @@ static void damage_list_once(struct list *list)
 
 void damage_list(struct list *list)
 {
-    if (list->word[0] > 0 && one_in(50))
+    if (list->word[LIST_PRODUCTS] > 0 && one_in(50))
         fill_list(list);
     else
         damage_list_once(list);

@@ -6,7 +6,7 @@ static size_t any_length(void)
     if (one_in(30))
         return 0;
     if (one_in(300))
-        return (size_t)ONE_OF(65535, 65536, 65536, 65537);
+        return (size_t)ONE_OF(MOST_SAMPLES - 1, MOST_SAMPLES, MOST_SAMPLES, MOST_SAMPLES + 1);
     switch (below(8)) {
     case 0: return 1;
     case 1: return (size_t)between(61, 700);
@@ -19,7 +19,7 @@ static size_t any_length(void)
 static void put_codes(struct frame *frame, const struct table *table)
 {
     unsigned manner = (unsigned)below(6);
-    int64_t one = any_aim(table, 1), other = any_aim(table, 1), at = one;
+    int64_t one = any_aim(table, Y), other = any_aim(table, Y), at = one;
     int64_t step = between(-3, 3);
     for (size_t k = 0; k < frame->samples; k++) {
         switch (manner) {
@@ -27,10 +27,10 @@ static void put_codes(struct frame *frame, const struct table *table)
         case 1: at += step; break;
         case 2: at = k % 2 == 0 ? one : other; break;
         case 3: at += between(-2, 2); break;
-        case 4: at = k < 4096 ? any_aim(table, 1) : at + between(-2, 2); break;
+        case 4: at = k < 4096 ? any_aim(table, Y) : at + between(-2, 2); break;
         default: at = one + between(-1, 1); break;
         }
-        frame->code[k] = (int16_t)clamped(at, LOWEST, HIGHEST);
+        frame->code[k] = (int16_t)in_range(Y, at);
     }
 }
 
@@ -46,34 +46,34 @@ static void breach(struct frame *frame, struct lampholly_window window)
     size_t last = frame->samples - 1;
     size_t at = (size_t)ONE_OF(0, (int64_t)last, (int64_t)last / 2, (int64_t)below(last + 1));
     int64_t code = one_in(2) ? (int64_t)window.ylo - 1 : (int64_t)window.yhi + 1;
-    frame->code[at] = (int16_t)clamped(code, LOWEST, HIGHEST);
+    frame->code[at] = (int16_t)in_range(Y, code);
 }
 
 /* The frame lies about the aim, then as a whole within the window if it can. */
 static int64_t any_first(size_t samples, const struct table *table, struct lampholly_window window)
 {
     int64_t length = (int64_t)samples;
-    int64_t first = any_aim(table, 0) - (length > 0 ? (int64_t)below(samples) : 0);
+    int64_t first = any_aim(table, X) - (length > 0 ? (int64_t)below(samples) : 0);
     int64_t lo = window.xlo, hi = (int64_t)window.xhi - length + 1;
     if (!one_in(6) && lo <= hi)
         first = clamped(first, lo, hi);
     if (one_in(10))
         first = ONE_OF(lo, lo - 1, hi, hi + 1);
     if (length > 60000 && !one_in(4))
-        first = LOWEST;
+        first = limits[X].least;
     if (one_in(24))
-        first = ONE_OF(LOWEST, LOWEST - 1, HIGHEST - length + 1, HIGHEST - length + 2, HIGHEST, INT32_MIN, INT32_MAX,
-                       INT32_MAX - length);
+        first = ONE_OF(limits[X].least, limits[X].least - 1, limits[X].greatest - length + 1, limits[X].greatest - length + 2,
+                       limits[X].greatest, INT32_MIN, INT32_MAX, INT32_MAX - length);
     return clamped(first, INT32_MIN, INT32_MAX);
 }
 
 static int64_t any_number(const struct table *table, struct lampholly_window window)
 {
-    int64_t number = any_aim(table, 2);
+    int64_t number = any_aim(table, Z);
     if (!one_in(6))
         number = clamped(number, window.zlo, window.zhi);
     if (one_in(24))
-        number = ONE_OF(LOWEST - 1, HIGHEST + 1, LOWEST, HIGHEST, INT32_MIN, INT32_MAX);
+        number = ONE_OF(limits[Z].least - 1, limits[Z].greatest + 1, limits[Z].least, limits[Z].greatest, INT32_MIN, INT32_MAX);
     return clamped(number, INT32_MIN, INT32_MAX);
 }
 
@@ -92,11 +92,10 @@ void any_frame(struct frame *frame, const struct table *table, struct lampholly_
 /* One code in all columns, or in all but the last, at the middle of the zone's first box. */
 void level_frame(struct frame *frame, const struct table *table)
 {
-    int64_t lo[3], hi[3];
-    bounds_of(table->word, lo, hi);
-    frame->samples = (size_t)between(65535, 65536);
-    frame->first = LOWEST;
-    frame->number = (int32_t)((lo[2] + hi[2]) / 2);
+    struct box box = box_of(table->word + table_words(0));
+    frame->samples = (size_t)between(MOST_SAMPLES - 1, MOST_SAMPLES);
+    frame->first = limits[X].least;
+    frame->number = (int32_t)((box.lo[Z] + box.hi[Z]) / 2);
     for (size_t k = 0; k < frame->samples; k++)
-        frame->code[k] = (int16_t)((lo[1] + hi[1]) / 2);
+        frame->code[k] = (int16_t)((box.lo[Y] + box.hi[Y]) / 2);
 }

@@ -6,20 +6,12 @@
 #include <stdint.h>
 
 #include "lampholly.h"
-
-enum { BOX, WEDGE, DRUM, UNION, INTER, DIFF };
-
-#define ROW_WORDS 12
-#define MOST_ROWS 127
-#define MOST_PRIMITIVES 64
-#define MOST_CHOICES 65536
-#define LOWEST (-32768)
-#define HIGHEST 32767
+#include "rules.h"
 
 /* What can be lent: a little more of each than the rules let pass. */
 #define TABLE_ROOM (ROW_WORDS * 260)
-#define LIST_ROOM (8 + 2 * (MOST_CHOICES + 4))
-#define FRAME_ROOM 65537
+#define LIST_ROOM (HEADER_WORDS + PRODUCT_WORDS * (MOST_PRODUCTS + 4))
+#define FRAME_ROOM (MOST_SAMPLES + 1)
 #define TEXT_ROOM 20000
 
 struct table {
@@ -44,7 +36,12 @@ struct text {
 };
 
 struct point {
-    int32_t at[3];
+    int32_t at[AXES];
+};
+
+/* The box of a primitive, or of a damaged one. */
+struct box {
+    int64_t lo[AXES], hi[AXES];
 };
 
 /* chance.c: the generator. The same seed and case number give the same case. */
@@ -55,6 +52,8 @@ int64_t between(int64_t lo, int64_t hi);
 int one_in(unsigned count);
 int64_t one_of(const int64_t *values, size_t count);
 int64_t clamped(int64_t value, int64_t lo, int64_t hi);
+int64_t any_coordinate(int axis);
+int64_t in_range(int axis, int64_t value);
 void fill(void *bytes, size_t count);
 
 #define ONE_OF(...) one_of((const int64_t[]){__VA_ARGS__}, sizeof((const int64_t[]){__VA_ARGS__}) / sizeof(int64_t))
@@ -65,9 +64,8 @@ void any_long_zone(struct table *table);
 void any_marks(void);
 void any_long_box(int32_t *row);
 void any_primitive(int32_t *row);
-int is_primitive(const int32_t *row);
 size_t fields_of(int32_t kind);
-void bounds_of(const int32_t *row, int64_t lo[3], int64_t hi[3]);
+struct box box_of(const int32_t *row);
 
 /* faults.c: damaged tables and lists. */
 void damage_table(struct table *table);

@@ -1,4 +1,5 @@
 # To be sourced: compiles, links and starts C for x86-64 with the kit's own compiler and linker, so that nothing need be installed.
+. tools/start.sh
 kit=$(dirname "$(dirname "$(rt doc)")")/on/$(uname -m)
 tools=$kit/toolchain
 out=target/compare
@@ -9,11 +10,13 @@ make_archive() {
     rt staticlib zone_c >"$out/archive.log" 2>&1 || { cat "$out/archive.log"; exit 1; }
 }
 
-# compile NAME..: compare/NAME.c to NAME.o
+# compile FOLDER NAME..: FOLDER/NAME.c to NAME.o
 compile() {
+    folder=$1
+    shift
     for name in "$@"; do
         "$tools/bin/clang" --target=x86_64-unknown-linux-gnu --no-default-config -nostdinc -Icompare/libc -Iinclude \
-            -std=c99 -Wall -Wextra -pedantic -Werror -O3 -fPIC -c "compare/$name.c" -o "$out/$name.o"
+            -std=c99 -Wall -Wextra -pedantic -Werror -O3 -fPIC -c "$folder/$name.c" -o "$out/$name.o"
     done
 }
 
@@ -24,14 +27,4 @@ link_with_archive() {
     objects=$(printf "$out/%s.o " "$@")
     "$kit/bin/rattle-link" --target x86_64-unknown-linux-gnu --toolchain "$tools" -o "$program" $objects "$archive" \
         2>"$out/link.log" || { cat "$out/link.log"; exit 1; }
-}
-
-# start PROGRAM ARGUMENT..: under the kit's emulator where the machine is no x86-64
-start() {
-    program=$out/$1
-    shift
-    case $(uname -m) in
-    x86_64) "$program" "$@" ;;
-    *) "$tools/bin/qemu-x86_64" "$tools/lib/ld-linux-x86-64.so.2" --library-path "$tools/lib" "$program" "$@" ;;
-    esac
 }

@@ -38,7 +38,7 @@ static struct choices written_out(const struct peer_zone *zone, int32_t number, 
 {
     const struct peer_row *row = &zone->row[number];
     struct choices all = {1, NULL};
-    if (row->kind < UNION) {
+    if (!is_operation(row->kind)) {
         all.at = room_for(1, sizeof all.at[0]);
         all.at[0].uncomplemented = is_in ? bit(row->left) : 0;
         all.at[0].complemented = is_in ? 0 : bit(row->left);
@@ -142,7 +142,7 @@ static struct parts crossed(struct parts left, struct parts right)
 static struct parts expanded(const struct peer_zone *zone, int32_t number, int is_in, struct peer_box window)
 {
     const struct peer_row *row = &zone->row[number];
-    if (row->kind < UNION)
+    if (!is_operation(row->kind))
         return one_part(zone, row->left, is_in, window);
     struct parts left = expanded(zone, row->left, is_in, window);
     struct parts right = expanded(zone, row->right, right_side(row, is_in), window);

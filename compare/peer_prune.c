@@ -13,18 +13,21 @@ struct peer_box box_of_window(struct lampholly_window w)
 static uint64_t count(const struct peer_zone *zone, int32_t number, int is_in)
 {
     const struct peer_row *row = &zone->row[number];
-    if (row->kind < UNION)
+    if (!is_operation(row->kind))
         return 1;
     uint64_t left = count(zone, row->left, is_in), right = count(zone, row->right, row->kind == DIFF ? !is_in : is_in);
     return (row->kind == UNION) == is_in ? left + right : left * right;
 }
 
-static struct lampholly_answer check_window(struct lampholly_window w)
+static struct lampholly_answer check_window(struct lampholly_window window)
 {
-    int32_t bound[6] = {w.xlo, w.xhi, w.ylo, w.yhi, w.zlo, w.zhi};
-    for (uint64_t b = 0; b < 6; b++)
-        if (bound[b] < (b % 2 == 1 ? bound[b - 1] : LOWEST) || bound[b] > HIGHEST)
-            return peer_refused(6, b);
+    struct peer_box box = box_of_window(window);
+    for (int axis = X; axis < AXES; axis++) {
+        if (!is_coordinate(axis, box.lo[axis]))
+            return peer_refused(6, LO(axis));
+        if (box.hi[axis] < box.lo[axis] || box.hi[axis] > limits[axis].greatest)
+            return peer_refused(6, HI(axis));
+    }
     return peer_done(0);
 }
 
@@ -70,17 +73,19 @@ static size_t drop_repeats(struct product *products, size_t total)
 }
 
 /* Drops repeats, then 8 or the list. */
-struct lampholly_answer peer_finish(const struct peer_zone *zone, struct lampholly_window w,
+struct lampholly_answer peer_finish(const struct peer_zone *zone, struct lampholly_window window,
                                     struct product *products, size_t total, uint64_t *list, size_t room)
 {
-    int32_t bound[6] = {w.xlo, w.xhi, w.ylo, w.yhi, w.zlo, w.zhi};
-    size_t stayed = drop_repeats(products, total), needed = 8 + 2 * stayed;
+    struct peer_box box = box_of_window(window);
+    size_t stayed = drop_repeats(products, total), needed = list_words(stayed);
     if (needed > room)
         return peer_refused(8, needed);
-    list[0] = stayed;
-    for (int b = 0; b < 6; b++)
-        list[1 + b] = (uint64_t)(bound[b] - LOWEST);
-    list[7] = (uint64_t)zone->primitives;
-    memcpy(list + 8, products, stayed * sizeof products[0]);
+    list[LIST_PRODUCTS] = stayed;
+    for (int axis = X; axis < AXES; axis++) {
+        list[LIST_BOUND + LO(axis)] = raised(axis, box.lo[axis]);
+        list[LIST_BOUND + HI(axis)] = raised(axis, box.hi[axis]);
+    }
+    list[LIST_PRIMITIVES] = (uint64_t)zone->primitives;
+    memcpy(list + HEADER_WORDS, products, stayed * sizeof products[0]);
     return peer_done(needed);
 }

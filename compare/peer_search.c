@@ -3,23 +3,25 @@
 
 static int in_primitive(const int32_t *row, int64_t x, int64_t y, int64_t z)
 {
-    if (row[0] == DRUM) {
-        int64_t dx = x - row[1], dy = y - row[2], rx = (int64_t)row[3] * row[3], ry = (int64_t)row[4] * row[4];
-        return row[5] <= z && z <= row[6] && ry * dx * dx + rx * dy * dy <= rx * ry;
+    if (row[KIND] == DRUM) {
+        int64_t dx = x - row[CENTRE + X], dy = y - row[CENTRE + Y];
+        int64_t rx = (int64_t)row[RADIUS + X] * row[RADIUS + X], ry = (int64_t)row[RADIUS + Y] * row[RADIUS + Y];
+        return row[BOUND + LO(Z)] <= z && z <= row[BOUND + HI(Z)] && ry * dx * dx + rx * dy * dy <= rx * ry;
     }
-    if (x < row[1] || row[2] < x || y < row[3] || row[4] < y || z < row[5] || row[6] < z)
+    if (x < row[BOUND + LO(X)] || row[BOUND + HI(X)] < x || y < row[BOUND + LO(Y)] || row[BOUND + HI(Y)] < y
+        || z < row[BOUND + LO(Z)] || row[BOUND + HI(Z)] < z)
         return 0;
-    return row[0] == BOX || row[7] * x + row[8] * y + row[9] * z <= row[10];
+    return row[KIND] == BOX || row[SLOPE + X] * x + row[SLOPE + Y] * y + row[SLOPE + Z] * z <= row[LIMIT];
 }
 
 static struct lampholly_answer check_frame(size_t samples, int32_t first, int32_t frame)
 {
     int64_t last = (int64_t)first + (int64_t)samples - 1;
-    if (samples == 0 || samples > 65536)
+    if (samples == 0 || samples > MOST_SAMPLES)
         return peer_refused(12, 0);
-    if (first < LOWEST || last > HIGHEST)
+    if (!is_coordinate(X, first) || !is_coordinate(X, last))
         return peer_refused(12, 1);
-    return frame < LOWEST || frame > HIGHEST ? peer_refused(12, 2) : peer_done(0);
+    return is_coordinate(Z, frame) ? peer_done(0) : peer_refused(12, 2);
 }
 
 /* The tree. */
@@ -64,33 +66,46 @@ struct lampholly_answer peer_tree_search(const int32_t *table, size_t words,
 
 static struct lampholly_answer check_list(const uint64_t *list, size_t words)
 {
-    if (words < 8)
+    if (words < HEADER_WORDS)
         return peer_refused(9, words);
-    if (list[0] > MOST_CHOICES || list[0] > (words - 8) / 2)
-        return peer_refused(9, 0);
-    for (size_t word = 1; word <= 6; word++)
-        if (list[word] > 65535 || (word % 2 == 0 && list[word] < list[word - 1]))
-            return peer_refused(9, word);
-    if (list[7] < 1 || list[7] > 64)
-        return peer_refused(9, 7);
-    uint64_t past = list[7] == 64 ? 0 : ~(uint64_t)0 << list[7];
-    for (size_t word = 8; word < 8 + 2 * list[0]; word += 2) {
-        if (list[word] == 0 || (list[word] & past) != 0)
-            return peer_refused(9, word);
-        if ((list[word + 1] & (past | list[word])) != 0)
-            return peer_refused(9, word + 1);
+    uint64_t products = list[LIST_PRODUCTS], primitives = list[LIST_PRIMITIVES];
+    if (products > MOST_PRODUCTS || products > products_in(words))
+        return peer_refused(9, LIST_PRODUCTS);
+    for (int b = 0; b < BOUNDS; b++) {
+        const uint64_t *word = &list[LIST_BOUND + b];
+        if (*word > greatest_word(b / 2) || (b % 2 == 1 && *word < word[-1]))
+            return peer_refused(9, LIST_BOUND + (uint64_t)b);
+    }
+    if (primitives < 1 || primitives > MOST_PRIMITIVES)
+        return peer_refused(9, LIST_PRIMITIVES);
+    uint64_t past = primitives == MOST_PRIMITIVES ? 0 : ~(uint64_t)0 << primitives;
+    for (size_t at = list_words(0); at < list_words(products); at += PRODUCT_WORDS) {
+        uint64_t uncomplemented = list[at + UNCOMPLEMENTED];
+        if (uncomplemented == 0 || (uncomplemented & past) != 0)
+            return peer_refused(9, at + UNCOMPLEMENTED);
+        if ((list[at + COMPLEMENTED] & (past | uncomplemented)) != 0)
+            return peer_refused(9, at + COMPLEMENTED);
     }
     return peer_done(0);
+}
+
+static struct peer_box box_of_list(const uint64_t *list)
+{
+    struct peer_box box;
+    for (int axis = X; axis < AXES; axis++) {
+        box.lo[axis] = (int32_t)lowered(axis, list[LIST_BOUND + LO(axis)]);
+        box.hi[axis] = (int32_t)lowered(axis, list[LIST_BOUND + HI(axis)]);
+    }
+    return box;
 }
 
 /* Is every sample in the list's window? */
 static struct lampholly_answer check_window(const uint64_t *list, const int16_t *codes, size_t samples, int32_t first, int32_t frame)
 {
-    int64_t xlo = (int64_t)list[1] + LOWEST, xhi = (int64_t)list[2] + LOWEST, ylo = (int64_t)list[3] + LOWEST;
-    int64_t yhi = (int64_t)list[4] + LOWEST, zlo = (int64_t)list[5] + LOWEST, zhi = (int64_t)list[6] + LOWEST;
+    struct peer_box box = box_of_list(list);
     for (size_t k = 0; k < samples; k++) {
         int64_t x = first + (int64_t)k, y = codes[k];
-        if (x < xlo || xhi < x || y < ylo || yhi < y || frame < zlo || zhi < frame)
+        if (x < box.lo[X] || box.hi[X] < x || y < box.lo[Y] || box.hi[Y] < y || frame < box.lo[Z] || box.hi[Z] < frame)
             return peer_refused(10, k);
     }
     return peer_done(0);
@@ -104,7 +119,7 @@ static struct lampholly_answer check_all(const int32_t *table, size_t words, con
     struct lampholly_answer check = peer_open(table, words, zone);
     if (!check.refusal)
         check = check_list(list, list_words);
-    if (!check.refusal && list[7] != (uint64_t)zone->primitives)
+    if (!check.refusal && list[LIST_PRIMITIVES] != (uint64_t)zone->primitives)
         check = peer_refused(11, (uint64_t)zone->primitives);
     if (!check.refusal)
         check = check_frame(samples, first, frame);
@@ -115,10 +130,10 @@ static struct lampholly_answer check_all(const int32_t *table, size_t words, con
 
 static int in_product(const struct peer_zone *zone, const uint64_t *product, int64_t x, int64_t y, int64_t z)
 {
-    for (uint64_t left = product[0]; left != 0; left &= left - 1)
+    for (uint64_t left = product[UNCOMPLEMENTED]; left != 0; left &= left - 1)
         if (!in_primitive(zone->words[__builtin_ctzll(left)], x, y, z))
             return 0;
-    for (uint64_t left = product[1]; left != 0; left &= left - 1)
+    for (uint64_t left = product[COMPLEMENTED]; left != 0; left &= left - 1)
         if (in_primitive(zone->words[__builtin_ctzll(left)], x, y, z))
             return 0;
     return 1;
@@ -126,8 +141,8 @@ static int in_product(const struct peer_zone *zone, const uint64_t *product, int
 
 static int in_some_product(const struct peer_zone *zone, const uint64_t *list, int64_t x, int64_t y, int64_t z)
 {
-    for (uint64_t k = 0; k < list[0]; k++)
-        if (in_product(zone, list + 8 + 2 * k, x, y, z))
+    for (uint64_t k = 0; k < list[LIST_PRODUCTS]; k++)
+        if (in_product(zone, list + list_words(k), x, y, z))
             return 1;
     return 0;
 }
@@ -137,9 +152,11 @@ static int in_list_by_mask(const struct peer_zone *zone, const uint64_t *list, i
     uint64_t around = 0;
     for (int32_t i = 0; i < zone->primitives; i++)
         around |= (uint64_t)in_primitive(zone->words[i], x, y, z) << i;
-    for (uint64_t k = 0; k < list[0]; k++)
-        if ((list[8 + 2 * k] & ~around) == 0 && (list[9 + 2 * k] & around) == 0)
+    for (uint64_t k = 0; k < list[LIST_PRODUCTS]; k++) {
+        const uint64_t *product = list + list_words(k);
+        if ((product[UNCOMPLEMENTED] & ~around) == 0 && (product[COMPLEMENTED] & around) == 0)
             return 1;
+    }
     return 0;
 }
 

@@ -13,35 +13,42 @@ struct lampholly_answer peer_refused(uint64_t number, uint64_t value)
     return answer;
 }
 
-static int in_range(int64_t value)
+static int is_slope(int64_t value)
 {
-    return LOWEST <= value && value <= HIGHEST;
+    return LEAST_SLOPE <= value && value <= GREATEST_SLOPE;
 }
 
-static int is_interval(int64_t lo, int64_t hi)
+static int is_interval(int axis, int64_t lo, int64_t hi)
 {
-    return LOWEST <= lo && lo <= hi && hi <= HIGHEST;
+    return limits[axis].least <= lo && lo <= hi && hi <= limits[axis].greatest;
 }
 
-static int is_round(int64_t centre, int64_t radius)
+static int has_bounds(const int32_t *row, int axis)
 {
-    return 1 <= radius && radius <= 4096 && is_interval(centre - radius, centre + radius);
+    return is_interval(axis, row[BOUND + LO(axis)], row[BOUND + HI(axis)]);
+}
+
+static int is_round(const int32_t *row, int axis)
+{
+    int64_t centre = row[CENTRE + axis], radius = row[RADIUS + axis];
+    return LEAST_RADIUS <= radius && radius <= GREATEST_RADIUS && is_interval(axis, centre - radius, centre + radius);
 }
 
 static int fields_are_good(const int32_t *row)
 {
+    int32_t a = row[SLOPE + X], b = row[SLOPE + Y], c = row[SLOPE + Z];
     int good = 1;
-    switch (row[0]) {
+    switch (row[KIND]) {
     case DRUM:
-        good = is_round(row[1], row[3]) && is_round(row[2], row[4]) && is_interval(row[5], row[6]);
+        good = is_round(row, X) && is_round(row, Y) && has_bounds(row, Z);
         break;
     case WEDGE:
-        good = in_range(row[7]) && in_range(row[8]) && in_range(row[9]) && (row[7] | row[8] | row[9]) != 0;
+        good = is_slope(a) && is_slope(b) && is_slope(c) && (a | b | c) != 0;
         /* fall through */
     case BOX:
-        good = good && is_interval(row[1], row[2]) && is_interval(row[3], row[4]) && is_interval(row[5], row[6]);
+        good = good && has_bounds(row, X) && has_bounds(row, Y) && has_bounds(row, Z);
     }
-    for (size_t word = 1 + fields_of(row[0]); word < ROW_WORDS; word++)
+    for (size_t word = 1 + kinds[row[KIND]].fields; word < ROW_WORDS; word++)
         good = good && row[word] == 0;
     return good;
 }
@@ -49,21 +56,21 @@ static int fields_are_good(const int32_t *row)
 struct lampholly_answer peer_check(const int32_t *table, size_t words)
 {
     uint8_t times[MOST_ROWS] = {0};
-    size_t rows = words / ROW_WORDS;
-    if (words % ROW_WORDS != 0 || rows == 0 || rows > MOST_ROWS)
+    size_t rows = rows_in(words);
+    if (words != table_words(rows) || rows == 0 || rows > MOST_ROWS)
         return peer_refused(1, words);
     for (size_t number = 0; number < rows; number++) {
-        const int32_t *row = table + ROW_WORDS * number;
-        if (row[0] < BOX || row[0] > DIFF)
+        const int32_t *row = table + table_words(number);
+        if (!is_kind(row[KIND]))
             return peer_refused(2, number);
         if (!fields_are_good(row))
             return peer_refused(3, number);
-        if (row[0] < UNION)
+        if (!is_operation(row[KIND]))
             continue;
-        if ((uint32_t)row[1] >= number || (uint32_t)row[2] >= number)
+        if ((uint32_t)row[LEFT] >= number || (uint32_t)row[RIGHT] >= number)
             return peer_refused(4, number);
-        times[row[1]]++;
-        times[row[2]]++;
+        times[row[LEFT]]++;
+        times[row[RIGHT]]++;
     }
     for (size_t number = 0; number + 1 < rows; number++)
         if (times[number] != 1)
@@ -73,14 +80,13 @@ struct lampholly_answer peer_check(const int32_t *table, size_t words)
 
 static void open_primitive(struct peer_zone *zone, struct peer_row *row, const int32_t *words)
 {
-    int64_t lo[3], hi[3];
+    struct box box = box_of(words);
     int32_t number = zone->primitives++;
     row->left = number;
     zone->words[number] = words;
-    bounds_of(words, lo, hi);
-    for (int axis = 0; axis < 3; axis++) {
-        zone->box[number].lo[axis] = (int32_t)lo[axis];
-        zone->box[number].hi[axis] = (int32_t)hi[axis];
+    for (int axis = X; axis < AXES; axis++) {
+        zone->box[number].lo[axis] = (int32_t)box.lo[axis];
+        zone->box[number].hi[axis] = (int32_t)box.hi[axis];
     }
 }
 
@@ -89,15 +95,15 @@ struct lampholly_answer peer_open(const int32_t *table, size_t words, struct pee
     struct lampholly_answer check = peer_check(table, words);
     if (check.refusal)
         return check;
-    zone->rows = (int32_t)(words / ROW_WORDS);
+    zone->rows = (int32_t)rows_in(words);
     zone->primitives = 0;
     for (int32_t number = 0; number < zone->rows; number++) {
-        const int32_t *from = table + ROW_WORDS * number;
+        const int32_t *from = table + table_words((size_t)number);
         struct peer_row *row = &zone->row[number];
-        row->kind = from[0];
-        row->left = from[1];
-        row->right = from[2];
-        if (from[0] < UNION)
+        row->kind = from[KIND];
+        row->left = from[LEFT];
+        row->right = from[RIGHT];
+        if (!is_operation(row->kind))
             open_primitive(zone, row, from);
     }
     return check;

@@ -3,9 +3,6 @@
 
 #include "peers.h"
 
-static const char *const name[] = {"box", "wedge", "drum", "union", "inter", "diff"};
-static const size_t name_length[] = {3, 5, 4, 5, 5, 4};
-
 /* Reading. Each step gives where the text goes on, NULL where it breaks its form. */
 
 static const uint8_t *read_number(const uint8_t *at, const uint8_t *end, int32_t *number)
@@ -27,16 +24,22 @@ static const uint8_t *read_byte(const uint8_t *at, const uint8_t *end, uint8_t b
     return at != NULL && at < end && *at == byte ? at + 1 : NULL;
 }
 
+static int stands_at(const uint8_t *at, const uint8_t *end, const char *name)
+{
+    size_t length = strlen(name);
+    return (size_t)(end - at) >= length && memcmp(at, name, length) == 0;
+}
+
 static const uint8_t *read_row(const uint8_t *at, const uint8_t *end, int32_t *row)
 {
     int32_t kind = 0;
-    while (kind < 6 && ((size_t)(end - at) < name_length[kind] || memcmp(at, name[kind], name_length[kind]) != 0))
+    while (is_kind(kind) && !stands_at(at, end, kinds[kind].name))
         kind++;
-    if (kind == 6)
+    if (!is_kind(kind))
         return NULL;
-    row[0] = kind;
-    at += name_length[kind];
-    for (size_t field = 1; field <= fields_of(kind) && at != NULL; field++) {
+    row[KIND] = kind;
+    at += strlen(kinds[kind].name);
+    for (size_t field = 1; field <= kinds[kind].fields && at != NULL; field++) {
         at = read_byte(at, end, '\t');
         if (at != NULL)
             at = read_number(at, end, &row[field]);
@@ -54,17 +57,17 @@ static const uint8_t *read_first_line(const uint8_t *at, const uint8_t *end, int
 
 struct lampholly_answer peer_read_text(const uint8_t *text, size_t bytes, int32_t *table, size_t room)
 {
-    int32_t fresh[ROW_WORDS * MOST_ROWS], rows;
+    int32_t fresh[MOST_TABLE_WORDS], rows;
     const uint8_t *end = text + bytes;
-    if (bytes > 16384)
+    if (bytes > MOST_TEXT_BYTES)
         return peer_refused(13, 0);
     const uint8_t *at = read_first_line(text, end, &rows);
     if (at == NULL)
         return peer_refused(13, 1);
-    size_t words = ROW_WORDS * (size_t)rows;
+    size_t words = table_words((size_t)rows);
     memset(fresh, 0, words * sizeof fresh[0]);
     for (int32_t row = 0; row < rows; row++) {
-        at = read_row(at, end, fresh + ROW_WORDS * row);
+        at = read_row(at, end, fresh + table_words((size_t)row));
         if (at == NULL)
             return peer_refused(13, (uint64_t)row + 2);
     }
@@ -100,9 +103,11 @@ static uint8_t *write_number(uint8_t *at, int64_t number)
 
 static uint8_t *write_row(uint8_t *at, const int32_t *row)
 {
-    memcpy(at, name[row[0]], name_length[row[0]]);
-    at += name_length[row[0]];
-    for (size_t field = 1; field <= fields_of(row[0]); field++) {
+    const struct kind *kind = &kinds[row[KIND]];
+    size_t length = strlen(kind->name);
+    memcpy(at, kind->name, length);
+    at += length;
+    for (size_t field = 1; field <= kind->fields; field++) {
         *at++ = '\t';
         at = write_number(at, row[field]);
     }
@@ -112,15 +117,15 @@ static uint8_t *write_row(uint8_t *at, const int32_t *row)
 
 struct lampholly_answer peer_write_text(const int32_t *table, size_t words, uint8_t *text, size_t room)
 {
-    uint8_t written[16384], *at = written;
+    uint8_t written[MOST_TEXT_BYTES], *at = written;
     struct lampholly_answer check = peer_check(table, words);
     if (check.refusal)
         return check;
     memcpy(at, "zone\t", 5);
-    at = write_number(at + 5, (int64_t)(words / ROW_WORDS));
+    at = write_number(at + 5, (int64_t)rows_in(words));
     *at++ = '\n';
-    for (size_t word = 0; word < words; word += ROW_WORDS)
-        at = write_row(at, table + word);
+    for (size_t row = 0; row < rows_in(words); row++)
+        at = write_row(at, table + table_words(row));
     size_t bytes = (size_t)(at - written);
     if (bytes > room)
         return peer_refused(8, bytes);

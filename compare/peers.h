@@ -5,7 +5,7 @@
 #include "inputs.h"
 
 struct peer_box {
-    int32_t lo[3], hi[3];
+    int32_t lo[AXES], hi[AXES];
 };
 
 struct peer_row {
@@ -27,7 +27,7 @@ struct product {
 
 static inline struct peer_box box_cut(struct peer_box one, struct peer_box other)
 {
-    for (int axis = 0; axis < 3; axis++) {
+    for (int axis = X; axis < AXES; axis++) {
         one.lo[axis] = one.lo[axis] > other.lo[axis] ? one.lo[axis] : other.lo[axis];
         one.hi[axis] = one.hi[axis] < other.hi[axis] ? one.hi[axis] : other.hi[axis];
     }
@@ -36,7 +36,7 @@ static inline struct peer_box box_cut(struct peer_box one, struct peer_box other
 
 static inline int box_is_empty(struct peer_box box)
 {
-    return box.lo[0] > box.hi[0] || box.lo[1] > box.hi[1] || box.lo[2] > box.hi[2];
+    return box.lo[X] > box.hi[X] || box.lo[Y] > box.hi[Y] || box.lo[Z] > box.hi[Z];
 }
 
 /* Drops the cuts whose box shares no point with the product's. */

@@ -4,36 +4,46 @@
 /* The bits at or past this number of primitives. */
 static uint64_t bits_past(uint64_t primitives)
 {
-    return primitives == 64 ? 0 : ~(uint64_t)0 << primitives;
+    return primitives == MOST_PRIMITIVES ? 0 : ~(uint64_t)0 << primitives;
 }
 
 static struct plain_answer check_products(const uint64_t *list)
 {
-    uint64_t past = bits_past(list[7]);
-    for (uint64_t product = 0; product < list[0]; product++) {
-        uint64_t word = 8 + 2 * product;
-        uint64_t uncomplemented = list[word], complemented = list[word + 1];
+    uint64_t past = bits_past(list[LIST_PRIMITIVES]);
+    for (uint64_t product = 0; product < list[LIST_PRODUCTS]; product++) {
+        size_t at = list_words(product);
+        uint64_t uncomplemented = list[at + UNCOMPLEMENTED], complemented = list[at + COMPLEMENTED];
         if (uncomplemented == 0 || (uncomplemented & past) != 0)
-            return plain_refused(9, word);
+            return plain_refused(9, at + UNCOMPLEMENTED);
         if ((complemented & past) != 0 || (complemented & uncomplemented) != 0)
-            return plain_refused(9, word + 1);
+            return plain_refused(9, at + COMPLEMENTED);
+    }
+    return plain_done(0);
+}
+
+static struct plain_answer check_window(const uint64_t *list)
+{
+    for (int axis = X; axis < AXES; axis++) {
+        uint64_t lo = list[LIST_BOUND + LO(axis)], hi = list[LIST_BOUND + HI(axis)];
+        if (lo > greatest_word(axis))
+            return plain_refused(9, LIST_BOUND + LO(axis));
+        if (hi > greatest_word(axis) || hi < lo)
+            return plain_refused(9, LIST_BOUND + HI(axis));
     }
     return plain_done(0);
 }
 
 static struct plain_answer check_list(const uint64_t *list, size_t words)
 {
-    if (words < 8)
+    if (words < HEADER_WORDS)
         return plain_refused(9, words);
-    if (list[0] > 65536 || list[0] > (words - 8) / 2)
-        return plain_refused(9, 0);
-    for (size_t word = 1; word <= 6; word++) {
-        int is_hi = word % 2 == 0;
-        if (list[word] > 65535 || (is_hi && list[word] < list[word - 1]))
-            return plain_refused(9, word);
-    }
-    if (list[7] < 1 || list[7] > 64)
-        return plain_refused(9, 7);
+    if (list[LIST_PRODUCTS] > MOST_PRODUCTS || list[LIST_PRODUCTS] > products_in(words))
+        return plain_refused(9, LIST_PRODUCTS);
+    struct plain_answer window = check_window(list);
+    if (plain_is_refused(window))
+        return window;
+    if (list[LIST_PRIMITIVES] < 1 || list[LIST_PRIMITIVES] > MOST_PRIMITIVES)
+        return plain_refused(9, LIST_PRIMITIVES);
     return check_products(list);
 }
 
@@ -48,26 +58,20 @@ static struct plain_answer check_table_and_list(const int32_t *table, size_t wor
     if (plain_is_refused(check))
         return check;
     struct zone zone = plain_zone(table, words);
-    if (list[7] != zone.primitives)
+    if (list[LIST_PRIMITIVES] != zone.primitives)
         return plain_refused(11, zone.primitives);
     return plain_done(0);
 }
 
-static int between(int64_t value, uint64_t lo_word, uint64_t hi_word)
-{
-    return (int64_t)lo_word - 32768 <= value && value <= (int64_t)hi_word - 32768;
-}
-
-/* The first axis on which the point is out of the list's window, 3 for none. */
+/* The first axis on which the point is out of the list's window, AXES for none. */
 static uint64_t first_bad_axis(const uint64_t *list, struct point point)
 {
-    if (!between(point.x, list[1], list[2]))
-        return 0;
-    if (!between(point.y, list[3], list[4]))
-        return 1;
-    if (!between(point.z, list[5], list[6]))
-        return 2;
-    return 3;
+    for (int axis = X; axis < AXES; axis++) {
+        int64_t lo = lowered(axis, list[LIST_BOUND + LO(axis)]), hi = lowered(axis, list[LIST_BOUND + HI(axis)]);
+        if (point.at[axis] < lo || hi < point.at[axis])
+            return (uint64_t)axis;
+    }
+    return AXES;
 }
 
 /* A bit for each primitive that the point is in. */
@@ -83,8 +87,9 @@ static uint64_t primitives_around(const struct zone *zone, struct point point)
 static int in_list(const struct zone *zone, const uint64_t *list, struct point point)
 {
     uint64_t around = primitives_around(zone, point);
-    for (uint64_t product = 0; product < list[0]; product++) {
-        uint64_t uncomplemented = list[8 + 2 * product], complemented = list[9 + 2 * product];
+    for (uint64_t product = 0; product < list[LIST_PRODUCTS]; product++) {
+        size_t at = list_words(product);
+        uint64_t uncomplemented = list[at + UNCOMPLEMENTED], complemented = list[at + COMPLEMENTED];
         int in_every = (uncomplemented & around) == uncomplemented;
         int in_none = (complemented & around) == 0;
         if (in_every && in_none)
@@ -99,9 +104,9 @@ struct plain_answer plain_list_point(const int32_t *table, size_t words, const u
     struct plain_answer check = check_table_and_list(table, words, list, list_words);
     if (plain_is_refused(check))
         return check;
-    struct point point = {x, y, z};
+    struct point point = {{x, y, z}};
     uint64_t bad_axis = first_bad_axis(list, point);
-    if (bad_axis < 3)
+    if (bad_axis < AXES)
         return plain_refused(10, bad_axis);
     struct zone zone = plain_zone(table, words);
     return plain_inside(in_list(&zone, list, point));
@@ -117,7 +122,7 @@ struct plain_answer plain_list_search(const int32_t *table, size_t words, const 
     if (plain_is_refused(check))
         return check;
     for (size_t k = 0; k < samples; k++)
-        if (first_bad_axis(list, plain_sample(codes, k, first, frame)) < 3)
+        if (first_bad_axis(list, plain_sample(codes, k, first, frame)) < AXES)
             return plain_refused(10, k);
     struct zone zone = plain_zone(table, words);
     uint64_t first_inside = 0, inside_samples = 0;

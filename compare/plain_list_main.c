@@ -3,11 +3,12 @@
 #include <stdio.h>
 
 #include "plain.h"
+#include "rules.h"
 
 /* One byte over the longest text, so that a longer one is seen to be too long. */
-static uint8_t text[16384 + 1];
-static int32_t table[12 * 127];
-static uint64_t list[8192];
+static uint8_t text[MOST_TEXT_BYTES + 1];
+static int32_t table[MOST_TABLE_WORDS];
+static uint64_t list[LISTING_WORDS];
 
 static void print_refusal(struct plain_answer answer)
 {
@@ -16,14 +17,16 @@ static void print_refusal(struct plain_answer answer)
 
 static void print_list(void)
 {
-    printf("list\t%" PRIu64 "\n", list[0]);
-    for (uint64_t product = 0; product < list[0]; product++)
-        printf("%" PRIu64 "\t%" PRIu64 "\n", list[8 + 2 * product], list[9 + 2 * product]);
+    printf("list\t%" PRIu64 "\n", list[LIST_PRODUCTS]);
+    for (uint64_t product = 0; product < list[LIST_PRODUCTS]; product++) {
+        const uint64_t *at = list + list_words(product);
+        printf("%" PRIu64 "\t%" PRIu64 "\n", at[UNCOMPLEMENTED], at[COMPLEMENTED]);
+    }
 }
 
 int main(void)
 {
-    struct plain_window full = {-32768, 32767, -32768, 32767, -32768, 32767};
+    struct plain_window full = {FULL_RANGE};
     size_t bytes = fread(text, 1, sizeof text, stdin);
     struct plain_answer answer = plain_read_text(text, bytes, table, sizeof table / sizeof table[0]);
     if (answer.refusal == 0)

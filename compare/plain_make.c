@@ -3,8 +3,6 @@
 
 #include "plain_parts.h"
 
-#define MOST_CHOICES 65536
-
 /* A choice, later a product: a bit for each of its primitives. */
 struct choice {
     uint64_t uncomplemented, complemented;
@@ -16,7 +14,7 @@ struct choices {
 };
 
 struct box {
-    int64_t lo[3], hi[3];
+    int64_t lo[AXES], hi[AXES];
 };
 
 /* The expansion counts. 64 primitives give at most 4 * 3^20 choices, so 64 bits hold every count. */
@@ -26,10 +24,10 @@ static uint64_t count_out(const struct zone *zone, size_t number);
 static uint64_t count_in(const struct zone *zone, size_t number)
 {
     const int32_t *row = zone->row[number];
-    switch (row[0]) {
-    case UNION: return count_in(zone, row[1]) + count_in(zone, row[2]);
-    case INTER: return count_in(zone, row[1]) * count_in(zone, row[2]);
-    case DIFF: return count_in(zone, row[1]) * count_out(zone, row[2]);
+    switch (row[KIND]) {
+    case UNION: return count_in(zone, row[LEFT]) + count_in(zone, row[RIGHT]);
+    case INTER: return count_in(zone, row[LEFT]) * count_in(zone, row[RIGHT]);
+    case DIFF: return count_in(zone, row[LEFT]) * count_out(zone, row[RIGHT]);
     default: return 1;
     }
 }
@@ -37,10 +35,10 @@ static uint64_t count_in(const struct zone *zone, size_t number)
 static uint64_t count_out(const struct zone *zone, size_t number)
 {
     const int32_t *row = zone->row[number];
-    switch (row[0]) {
-    case UNION: return count_out(zone, row[1]) * count_out(zone, row[2]);
-    case INTER: return count_out(zone, row[1]) + count_out(zone, row[2]);
-    case DIFF: return count_out(zone, row[1]) + count_in(zone, row[2]);
+    switch (row[KIND]) {
+    case UNION: return count_out(zone, row[LEFT]) * count_out(zone, row[RIGHT]);
+    case INTER: return count_out(zone, row[LEFT]) + count_out(zone, row[RIGHT]);
+    case DIFF: return count_out(zone, row[LEFT]) + count_in(zone, row[RIGHT]);
     default: return 1;
     }
 }
@@ -110,10 +108,10 @@ static struct choices choices_out(const struct zone *zone, size_t number);
 static struct choices choices_in(const struct zone *zone, size_t number)
 {
     const int32_t *row = zone->row[number];
-    switch (row[0]) {
-    case UNION: return left_then_right(choices_in(zone, row[1]), choices_in(zone, row[2]));
-    case INTER: return crossed(choices_in(zone, row[1]), choices_in(zone, row[2]));
-    case DIFF: return crossed(choices_in(zone, row[1]), choices_out(zone, row[2]));
+    switch (row[KIND]) {
+    case UNION: return left_then_right(choices_in(zone, row[LEFT]), choices_in(zone, row[RIGHT]));
+    case INTER: return crossed(choices_in(zone, row[LEFT]), choices_in(zone, row[RIGHT]));
+    case DIFF: return crossed(choices_in(zone, row[LEFT]), choices_out(zone, row[RIGHT]));
     default: return one_choice(bit(primitive_number(zone, row)), 0);
     }
 }
@@ -121,39 +119,38 @@ static struct choices choices_in(const struct zone *zone, size_t number)
 static struct choices choices_out(const struct zone *zone, size_t number)
 {
     const int32_t *row = zone->row[number];
-    switch (row[0]) {
-    case UNION: return crossed(choices_out(zone, row[1]), choices_out(zone, row[2]));
-    case INTER: return left_then_right(choices_out(zone, row[1]), choices_out(zone, row[2]));
-    case DIFF: return left_then_right(choices_out(zone, row[1]), choices_in(zone, row[2]));
+    switch (row[KIND]) {
+    case UNION: return crossed(choices_out(zone, row[LEFT]), choices_out(zone, row[RIGHT]));
+    case INTER: return left_then_right(choices_out(zone, row[LEFT]), choices_out(zone, row[RIGHT]));
+    case DIFF: return left_then_right(choices_out(zone, row[LEFT]), choices_in(zone, row[RIGHT]));
     default: return one_choice(0, bit(primitive_number(zone, row)));
     }
 }
 
 /* Boxes. */
 
-static struct box box_of_bounds(int64_t xlo, int64_t xhi, int64_t ylo, int64_t yhi, int64_t zlo, int64_t zhi)
-{
-    struct box box = {{xlo, ylo, zlo}, {xhi, yhi, zhi}};
-    return box;
-}
-
 static struct box box_of_window(struct plain_window w)
 {
-    return box_of_bounds(w.xlo, w.xhi, w.ylo, w.yhi, w.zlo, w.zhi);
+    struct box box = {{w.xlo, w.ylo, w.zlo}, {w.xhi, w.yhi, w.zhi}};
+    return box;
 }
 
 static struct box box_of_primitive(const int32_t *row)
 {
-    int64_t cx = row[1], cy = row[2], rx = row[3], ry = row[4];
-    if (row[0] == DRUM)
-        return box_of_bounds(cx - rx, cx + rx, cy - ry, cy + ry, row[5], row[6]);
-    return box_of_bounds(row[1], row[2], row[3], row[4], row[5], row[6]);
+    struct box box;
+    for (int axis = X; axis < AXES; axis++) {
+        int64_t centre = row[CENTRE + axis], radius = row[RADIUS + axis];
+        int is_round = row[KIND] == DRUM && axis != Z;
+        box.lo[axis] = is_round ? centre - radius : row[BOUND + LO(axis)];
+        box.hi[axis] = is_round ? centre + radius : row[BOUND + HI(axis)];
+    }
+    return box;
 }
 
 static struct box box_cut_with(struct box one, struct box other)
 {
     struct box cut;
-    for (int axis = 0; axis < 3; axis++) {
+    for (int axis = X; axis < AXES; axis++) {
         cut.lo[axis] = one.lo[axis] > other.lo[axis] ? one.lo[axis] : other.lo[axis];
         cut.hi[axis] = one.hi[axis] < other.hi[axis] ? one.hi[axis] : other.hi[axis];
     }
@@ -162,7 +159,7 @@ static struct box box_cut_with(struct box one, struct box other)
 
 static int holds_no_point(struct box box)
 {
-    return box.lo[0] > box.hi[0] || box.lo[1] > box.hi[1] || box.lo[2] > box.hi[2];
+    return box.lo[X] > box.hi[X] || box.lo[Y] > box.hi[Y] || box.lo[Z] > box.hi[Z];
 }
 
 /* Pruning. */
@@ -215,27 +212,31 @@ static void drop_repeats(struct choices *products)
     products->count = stayed;
 }
 
-static struct plain_answer check_window(struct plain_window w)
+/* A bad lo is named before its hi; that hi is below lo is found at hi. */
+static struct plain_answer check_window(struct plain_window window)
 {
-    int32_t bound[6] = {w.xlo, w.xhi, w.ylo, w.yhi, w.zlo, w.zhi};
-    for (size_t b = 0; b < 6; b++) {
-        int is_hi = b % 2 == 1;
-        if (!plain_in_range(bound[b]) || (is_hi && bound[b] < bound[b - 1]))
-            return plain_refused(6, b);
+    struct box box = box_of_window(window);
+    for (int axis = X; axis < AXES; axis++) {
+        if (!is_coordinate(axis, box.lo[axis]))
+            return plain_refused(6, LO(axis));
+        if (!is_coordinate(axis, box.hi[axis]) || box.hi[axis] < box.lo[axis])
+            return plain_refused(6, HI(axis));
     }
     return plain_done(0);
 }
 
-static void write_list(uint64_t *list, const struct zone *zone, struct plain_window w, struct choices products)
+static void write_list(uint64_t *list, const struct zone *zone, struct plain_window window, struct choices products)
 {
-    int32_t bound[6] = {w.xlo, w.xhi, w.ylo, w.yhi, w.zlo, w.zhi};
-    list[0] = products.count;
-    for (size_t b = 0; b < 6; b++)
-        list[1 + b] = (uint64_t)((int64_t)bound[b] + 32768);
-    list[7] = zone->primitives;
+    struct box box = box_of_window(window);
+    list[LIST_PRODUCTS] = products.count;
+    for (int axis = X; axis < AXES; axis++) {
+        list[LIST_BOUND + LO(axis)] = raised(axis, box.lo[axis]);
+        list[LIST_BOUND + HI(axis)] = raised(axis, box.hi[axis]);
+    }
+    list[LIST_PRIMITIVES] = zone->primitives;
     for (size_t k = 0; k < products.count; k++) {
-        list[8 + 2 * k] = products.at[k].uncomplemented;
-        list[9 + 2 * k] = products.at[k].complemented;
+        list[list_words(k) + UNCOMPLEMENTED] = products.at[k].uncomplemented;
+        list[list_words(k) + COMPLEMENTED] = products.at[k].complemented;
     }
 }
 
@@ -258,7 +259,7 @@ struct plain_answer plain_make_list(const int32_t *table, size_t words, struct p
     prune(&zone, window, &products);
     drop_repeats(&products);
 
-    size_t needed = 8 + 2 * products.count;
+    size_t needed = list_words(products.count);
     if (needed <= room)
         write_list(list, &zone, window, products);
     free(products.at);

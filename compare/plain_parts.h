@@ -3,18 +3,10 @@
 #define PLAIN_PARTS_H
 
 #include "plain.h"
-
-#define ROW_WORDS 12
-#define MOST_ROWS 127
-#define MOST_PRIMITIVES 64
-
-#define LOWEST (-32768)
-#define HIGHEST 32767
-
-enum { BOX, WEDGE, DRUM, UNION, INTER, DIFF };
+#include "rules.h"
 
 struct point {
-    int64_t x, y, z;
+    int64_t at[AXES];
 };
 
 /* A sound table taken apart: the 12 words of each row, and those of each primitive by its number. */
@@ -30,8 +22,6 @@ struct plain_answer plain_inside(int inside);
 struct plain_answer plain_found(uint64_t position, uint64_t inside_samples);
 struct plain_answer plain_refused(uint64_t number, uint64_t value);
 int plain_is_refused(struct plain_answer answer);
-int plain_in_range(int64_t value);
-size_t plain_fields(int32_t kind);
 struct zone plain_zone(const int32_t *table, size_t words);
 
 /* plain_tree.c */

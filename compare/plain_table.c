@@ -32,52 +32,43 @@ int plain_is_refused(struct plain_answer answer)
     return answer.refusal != 0;
 }
 
-int plain_in_range(int64_t value)
+static int bounds_keep_rule(const int32_t *row, int axis)
 {
-    return LOWEST <= value && value <= HIGHEST;
-}
-
-/* How many words from word 1 onward a row of this kind names. */
-size_t plain_fields(int32_t kind)
-{
-    switch (kind) {
-    case BOX: return 6;
-    case WEDGE: return 10;
-    case DRUM: return 6;
-    default: return 2;
-    }
-}
-
-static int bounds_keep_rule(int64_t lo, int64_t hi)
-{
-    return plain_in_range(lo) && plain_in_range(hi) && lo <= hi;
+    int32_t lo = row[BOUND + LO(axis)], hi = row[BOUND + HI(axis)];
+    return is_coordinate(axis, lo) && is_coordinate(axis, hi) && lo <= hi;
 }
 
 static int box_keeps_rule(const int32_t *row)
 {
-    return bounds_keep_rule(row[1], row[2]) && bounds_keep_rule(row[3], row[4]) && bounds_keep_rule(row[5], row[6]);
+    return bounds_keep_rule(row, X) && bounds_keep_rule(row, Y) && bounds_keep_rule(row, Z);
+}
+
+static int is_slope(int32_t value)
+{
+    return LEAST_SLOPE <= value && value <= GREATEST_SLOPE;
 }
 
 static int wedge_keeps_rule(const int32_t *row)
 {
-    int32_t a = row[7], b = row[8], c = row[9];
-    return box_keeps_rule(row)
-        && plain_in_range(a) && plain_in_range(b) && plain_in_range(c)
-        && !(a == 0 && b == 0 && c == 0);
+    int32_t a = row[SLOPE + X], b = row[SLOPE + Y], c = row[SLOPE + Z];
+    return box_keeps_rule(row) && is_slope(a) && is_slope(b) && is_slope(c) && !(a == 0 && b == 0 && c == 0);
+}
+
+static int round_keeps_rule(const int32_t *row, int axis)
+{
+    int64_t centre = row[CENTRE + axis], radius = row[RADIUS + axis];
+    return LEAST_RADIUS <= radius && radius <= GREATEST_RADIUS
+        && is_coordinate(axis, centre - radius) && is_coordinate(axis, centre + radius);
 }
 
 static int drum_keeps_rule(const int32_t *row)
 {
-    int64_t cx = row[1], cy = row[2], rx = row[3], ry = row[4];
-    return 1 <= rx && rx <= 4096 && 1 <= ry && ry <= 4096
-        && plain_in_range(cx - rx) && plain_in_range(cx + rx)
-        && plain_in_range(cy - ry) && plain_in_range(cy + ry)
-        && bounds_keep_rule(row[5], row[6]);
+    return round_keeps_rule(row, X) && round_keeps_rule(row, Y) && bounds_keep_rule(row, Z);
 }
 
 static int fields_keep_rule(const int32_t *row)
 {
-    switch (row[0]) {
+    switch (row[KIND]) {
     case BOX: return box_keeps_rule(row);
     case WEDGE: return wedge_keeps_rule(row);
     case DRUM: return drum_keeps_rule(row);
@@ -87,7 +78,7 @@ static int fields_keep_rule(const int32_t *row)
 
 static int spare_words_are_zero(const int32_t *row)
 {
-    for (size_t word = 1 + plain_fields(row[0]); word < ROW_WORDS; word++)
+    for (size_t word = 1 + kinds[row[KIND]].fields; word < ROW_WORDS; word++)
         if (row[word] != 0)
             return 0;
     return 1;
@@ -98,19 +89,14 @@ static int is_earlier(int32_t child, size_t number)
     return child >= 0 && (size_t)child < number;
 }
 
-static int is_operation(const int32_t *row)
-{
-    return row[0] == UNION || row[0] == INTER || row[0] == DIFF;
-}
-
 /* The refusal that this row earns, 0 for none. */
 static uint64_t row_refusal(const int32_t *row, size_t number)
 {
-    if (row[0] < BOX || row[0] > DIFF)
+    if (!is_kind(row[KIND]))
         return 2;
     if (!fields_keep_rule(row) || !spare_words_are_zero(row))
         return 3;
-    if (is_operation(row) && (!is_earlier(row[1], number) || !is_earlier(row[2], number)))
+    if (is_operation(row[KIND]) && (!is_earlier(row[LEFT], number) || !is_earlier(row[RIGHT], number)))
         return 4;
     return 0;
 }
@@ -119,10 +105,10 @@ static size_t times_child(const int32_t *table, size_t rows, size_t child)
 {
     size_t times = 0;
     for (size_t number = 0; number < rows; number++) {
-        const int32_t *row = table + ROW_WORDS * number;
-        if (is_operation(row) && (size_t)row[1] == child)
+        const int32_t *row = table + table_words(number);
+        if (is_operation(row[KIND]) && (size_t)row[LEFT] == child)
             times++;
-        if (is_operation(row) && (size_t)row[2] == child)
+        if (is_operation(row[KIND]) && (size_t)row[RIGHT] == child)
             times++;
     }
     return times;
@@ -130,11 +116,11 @@ static size_t times_child(const int32_t *table, size_t rows, size_t child)
 
 struct plain_answer plain_check(const int32_t *table, size_t words)
 {
-    size_t rows = words / ROW_WORDS;
-    if (words % ROW_WORDS != 0 || rows == 0 || rows > MOST_ROWS)
+    size_t rows = rows_in(words);
+    if (words != table_words(rows) || rows == 0 || rows > MOST_ROWS)
         return plain_refused(1, words);
     for (size_t number = 0; number < rows; number++) {
-        uint64_t refusal = row_refusal(table + ROW_WORDS * number, number);
+        uint64_t refusal = row_refusal(table + table_words(number), number);
         if (refusal != 0)
             return plain_refused(refusal, number);
     }
@@ -147,12 +133,12 @@ struct plain_answer plain_check(const int32_t *table, size_t words)
 struct zone plain_zone(const int32_t *table, size_t words)
 {
     struct zone zone;
-    zone.rows = words / ROW_WORDS;
+    zone.rows = rows_in(words);
     zone.primitives = 0;
     for (size_t number = 0; number < zone.rows; number++) {
-        const int32_t *row = table + ROW_WORDS * number;
+        const int32_t *row = table + table_words(number);
         zone.row[number] = row;
-        if (!is_operation(row))
+        if (is_primitive(row[KIND]))
             zone.primitive[zone.primitives++] = row;
     }
     return zone;

@@ -5,11 +5,6 @@
 
 #include "plain_parts.h"
 
-#define MOST_BYTES 16384
-#define MOST_WORDS (ROW_WORDS * MOST_ROWS)
-
-static const char *const text_name[] = {"box", "wedge", "drum", "union", "inter", "diff"};
-
 /* What is still to be read. Each take_ function says whether it found what it wants and steps past it. */
 struct rest {
     const uint8_t *text;
@@ -88,17 +83,17 @@ static int take_first_line(struct rest *rest, int32_t *rows)
 /* No text name begins another, so the first that fits is the name. */
 static int take_kind(struct rest *rest, int32_t *kind)
 {
-    for (*kind = BOX; *kind <= DIFF; (*kind)++)
-        if (take_name(rest, text_name[*kind]))
+    for (*kind = 0; is_kind(*kind); (*kind)++)
+        if (take_name(rest, kinds[*kind].name))
             return 1;
     return 0;
 }
 
 static int take_row_line(struct rest *rest, int32_t *row)
 {
-    if (!take_kind(rest, &row[0]))
+    if (!take_kind(rest, &row[KIND]))
         return 0;
-    for (size_t field = 1; field <= plain_fields(row[0]); field++)
+    for (size_t field = 1; field <= kinds[row[KIND]].fields; field++)
         if (!take_tab_and_number(rest, &row[field]))
             return 0;
     return take_byte(rest, '\n');
@@ -108,21 +103,21 @@ static int take_row_line(struct rest *rest, int32_t *row)
 static struct plain_answer read_form(struct rest rest, int32_t *table)
 {
     int32_t rows;
-    if (rest.bytes > MOST_BYTES)
+    if (rest.bytes > MOST_TEXT_BYTES)
         return plain_refused(13, 0);
     if (!take_first_line(&rest, &rows))
         return plain_refused(13, 1);
     for (int32_t row = 0; row < rows; row++)
-        if (!take_row_line(&rest, table + ROW_WORDS * row))
+        if (!take_row_line(&rest, table + table_words((size_t)row)))
             return plain_refused(13, (uint64_t)row + 2);
     if (rest.bytes > 0)
         return plain_refused(13, (uint64_t)rows + 2);
-    return plain_done((uint64_t)rows * ROW_WORDS);
+    return plain_done(table_words((size_t)rows));
 }
 
 struct plain_answer plain_read_text(const uint8_t *text, size_t bytes, int32_t *table, size_t room)
 {
-    int32_t fresh[MOST_WORDS] = {0};
+    int32_t fresh[MOST_TABLE_WORDS] = {0};
     struct rest rest = {text, bytes};
     struct plain_answer form = read_form(rest, fresh);
     if (plain_is_refused(form))
@@ -140,8 +135,8 @@ struct plain_answer plain_read_text(const uint8_t *text, size_t bytes, int32_t *
 /* Writes the row's line, and says how many bytes it has. */
 static size_t write_row_line(char *line, const int32_t *row)
 {
-    size_t bytes = (size_t)sprintf(line, "%s", text_name[row[0]]);
-    for (size_t field = 1; field <= plain_fields(row[0]); field++)
+    size_t bytes = (size_t)sprintf(line, "%s", kinds[row[KIND]].name);
+    for (size_t field = 1; field <= kinds[row[KIND]].fields; field++)
         bytes += (size_t)sprintf(line + bytes, "\t%" PRId32, row[field]);
     return bytes + (size_t)sprintf(line + bytes, "\n");
 }

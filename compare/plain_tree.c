@@ -6,29 +6,34 @@ static int64_t square(int64_t value)
     return value * value;
 }
 
+static int in_bounds(const int32_t *row, int axis, struct point p)
+{
+    return row[BOUND + LO(axis)] <= p.at[axis] && p.at[axis] <= row[BOUND + HI(axis)];
+}
+
 static int in_box(const int32_t *row, struct point p)
 {
-    return row[1] <= p.x && p.x <= row[2] && row[3] <= p.y && p.y <= row[4] && row[5] <= p.z && p.z <= row[6];
+    return in_bounds(row, X, p) && in_bounds(row, Y, p) && in_bounds(row, Z, p);
 }
 
 /* Each product of a slope and a coordinate is at most 2^30. */
 static int in_wedge(const int32_t *row, struct point p)
 {
-    int64_t a = row[7], b = row[8], c = row[9], d = row[10];
-    return in_box(row, p) && a * p.x + b * p.y + c * p.z <= d;
+    int64_t a = row[SLOPE + X], b = row[SLOPE + Y], c = row[SLOPE + Z], d = row[LIMIT];
+    return in_box(row, p) && a * p.at[X] + b * p.at[Y] + c * p.at[Z] <= d;
 }
 
 /* A radius is at most 2^12 and a coordinate less than 2^16 from the centre: the sum is under 2^57. */
 static int in_drum(const int32_t *row, struct point p)
 {
-    int64_t cx = row[1], cy = row[2], rx = row[3], ry = row[4];
-    return row[5] <= p.z && p.z <= row[6]
-        && square(ry) * square(p.x - cx) + square(rx) * square(p.y - cy) <= square(rx) * square(ry);
+    int64_t cx = row[CENTRE + X], cy = row[CENTRE + Y], rx = row[RADIUS + X], ry = row[RADIUS + Y];
+    return in_bounds(row, Z, p)
+        && square(ry) * square(p.at[X] - cx) + square(rx) * square(p.at[Y] - cy) <= square(rx) * square(ry);
 }
 
 int plain_in_primitive(const int32_t *row, struct point point)
 {
-    switch (row[0]) {
+    switch (row[KIND]) {
     case BOX: return in_box(row, point);
     case WEDGE: return in_wedge(row, point);
     default: return in_drum(row, point);
@@ -38,10 +43,10 @@ int plain_in_primitive(const int32_t *row, struct point point)
 static int in_tree(const struct zone *zone, size_t number, struct point point)
 {
     const int32_t *row = zone->row[number];
-    switch (row[0]) {
-    case UNION: return in_tree(zone, row[1], point) || in_tree(zone, row[2], point);
-    case INTER: return in_tree(zone, row[1], point) && in_tree(zone, row[2], point);
-    case DIFF: return in_tree(zone, row[1], point) && !in_tree(zone, row[2], point);
+    switch (row[KIND]) {
+    case UNION: return in_tree(zone, row[LEFT], point) || in_tree(zone, row[RIGHT], point);
+    case INTER: return in_tree(zone, row[LEFT], point) && in_tree(zone, row[RIGHT], point);
+    case DIFF: return in_tree(zone, row[LEFT], point) && !in_tree(zone, row[RIGHT], point);
     default: return plain_in_primitive(row, point);
     }
 }
@@ -51,32 +56,29 @@ struct plain_answer plain_tree_point(const int32_t *table, size_t words, int32_t
     struct plain_answer check = plain_check(table, words);
     if (plain_is_refused(check))
         return check;
-    if (!plain_in_range(x))
-        return plain_refused(10, 0);
-    if (!plain_in_range(y))
-        return plain_refused(10, 1);
-    if (!plain_in_range(z))
-        return plain_refused(10, 2);
+    struct point point = {{x, y, z}};
+    for (int axis = X; axis < AXES; axis++)
+        if (!is_coordinate(axis, point.at[axis]))
+            return plain_refused(10, (uint64_t)axis);
     struct zone zone = plain_zone(table, words);
-    struct point point = {x, y, z};
     return plain_inside(in_tree(&zone, zone.rows - 1, point));
 }
 
 struct plain_answer plain_check_frame(size_t samples, int32_t first, int32_t frame)
 {
-    if (samples == 0 || samples > 65536)
+    if (samples == 0 || samples > MOST_SAMPLES)
         return plain_refused(12, 0);
     int64_t last = (int64_t)first + (int64_t)samples - 1;
-    if (!plain_in_range(first) || !plain_in_range(last))
+    if (!is_coordinate(X, first) || !is_coordinate(X, last))
         return plain_refused(12, 1);
-    if (!plain_in_range(frame))
+    if (!is_coordinate(Z, frame))
         return plain_refused(12, 2);
     return plain_done(0);
 }
 
 struct point plain_sample(const int16_t *codes, size_t position, int32_t first, int32_t frame)
 {
-    struct point point = {(int64_t)first + (int64_t)position, codes[position], frame};
+    struct point point = {{(int64_t)first + (int64_t)position, codes[position], frame}};
     return point;
 }
 

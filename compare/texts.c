@@ -5,8 +5,6 @@
 
 #include "inputs.h"
 
-static const char *const kind_name[] = {"box", "wedge", "drum", "union", "inter", "diff"};
-
 static void add(struct text *text, const char *bytes)
 {
     size_t length = strlen(bytes);
@@ -26,15 +24,15 @@ static void add_number(struct text *text, int64_t number)
 /* In good form even where the table is not sound; then reading meets the table's refusals. */
 void text_of(struct text *text, const struct table *table)
 {
-    size_t rows = table->words / ROW_WORDS;
+    size_t rows = rows_in(table->words);
     text->bytes = 0;
     add(text, "zone\t");
     add_number(text, (int64_t)rows);
     add(text, "\n");
     for (size_t number = 0; number < rows; number++) {
-        const int32_t *row = table->word + ROW_WORDS * number;
-        add(text, row[0] < BOX || row[0] > DIFF ? "cone" : kind_name[row[0]]);
-        for (size_t field = 1; field <= fields_of(row[0]); field++) {
+        const int32_t *row = table->word + table_words(number);
+        add(text, is_kind(row[KIND]) ? kinds[row[KIND]].name : "cone");
+        for (size_t field = 1; field <= fields_of(row[KIND]); field++) {
             add(text, "\t");
             add_number(text, row[field]);
         }
@@ -187,7 +185,7 @@ static void add_tail(struct text *text)
 /* Fills up to about the most bytes that a text may have. */
 static void lengthen(struct text *text)
 {
-    size_t wanted = (size_t)ONE_OF(16383, 16384, 16385, 16386, 19999);
+    size_t wanted = (size_t)ONE_OF(MOST_TEXT_BYTES - 1, MOST_TEXT_BYTES, MOST_TEXT_BYTES + 1, MOST_TEXT_BYTES + 2, TEXT_ROOM - 1);
     const char *filling = SOME(bad_bytes);
     while (text->bytes < wanted) {
         if (one_in(50))

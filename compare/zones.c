@@ -22,7 +22,7 @@ static int32_t *new_row(struct table *table)
 
 static int32_t last_row(const struct table *table)
 {
-    return (int32_t)(table->words / ROW_WORDS) - 1;
+    return (int32_t)rows_in(table->words) - 1;
 }
 
 static void grow_primitive(struct table *table)
@@ -61,9 +61,9 @@ static struct branch taken(size_t at)
 static void grow_operation(struct table *table, int32_t operation, struct branch left, struct branch right)
 {
     int32_t *row = new_row(table);
-    row[0] = operation;
-    row[1] = left.row;
-    row[2] = right.row;
+    row[KIND] = operation;
+    row[LEFT] = left.row;
+    row[RIGHT] = right.row;
     struct branch branch = joined(operation, left, right);
     branch.row = last_row(table);
     open_branches[open_count++] = branch;
@@ -160,7 +160,7 @@ static size_t any_primitive_count(void)
 
 static void clear(struct table *table)
 {
-    table->words = 0;
+    table->words = table_words(0);
     open_count = 0;
     any_marks();
 }
@@ -221,6 +221,7 @@ void any_long_zone(struct table *table)
         return;
     any_primitive(new_row(table));
     int32_t *row = new_row(table);
-    row[0] = (int32_t)(one_in(2) ? UNION : DIFF);
-    row[2] = 1;
+    row[KIND] = (int32_t)(one_in(2) ? UNION : DIFF);
+    row[LEFT] = 0;
+    row[RIGHT] = 1;
 }

@@ -1,16 +1,38 @@
 /* Lampholly: search zones over sample column, ADC code and frame number, for C99 and C++11.
 
    `rt staticlib zone_c` makes the archive to link, target/staticlib/libzone_c.a. It is for x86-64 only.
-   docs/RULES.md has the rules of zones, tables, lists and text; what follows is how to call.
+   docs/RULES.md has the rules in full; what follows is all that a caller needs.
+
+   A zone is lent as a table, 12 words a row. Word 0 of a row is its kind; then come the words of its kind, and 0 in all others
+      kind               words                       inside
+      LAMPHOLLY_BOX      xlo xhi ylo yhi zlo zhi     lo <= value <= hi on each axis
+      LAMPHOLLY_WEDGE    a box's six, a b c d        in the box, and a*x + b*y + c*z <= d
+      LAMPHOLLY_DRUM     cx cy rx ry zlo zhi         zlo <= z <= zhi, and ry^2*(x - cx)^2 + rx^2*(y - cy)^2 <= rx^2*ry^2
+      LAMPHOLLY_UNION    left right                  in left or in right
+      LAMPHOLLY_INTER    left right                  in left and in right
+      LAMPHOLLY_DIFF     left right                  in left and not in right
+   - x is the column, y the code, z the frame number: 0 is the newest frame, older ones are negative.
+   - A lo or hi is in -32768..32767, with lo <= hi; so are cx - rx, cx + rx, cy - ry and cy + ry. A radius is 1..4096.
+     a, b and c are in -32768..32767 and not all 0; d is any 32-bit value.
+   - left and right are numbers of earlier rows, counted from 0. Each row but the last is so named once; the last is the zone.
+   - Boxes, wedges and drums are the primitives, numbered from 0 in the order of their rows. A table has at most 127 rows and
+     64 primitives.
 
    What is lent
-   - A table is a run of 12 words a row: `words` counts words, not rows and not bytes. The same holds for `list_words`,
-     `samples` and `bytes`, and `room` counts the words or bytes that fit into the buffer to be written.
+   - `words` counts words, not rows and not bytes. The same holds for `list_words`, `samples` and `bytes`, and `room` counts the
+     words or bytes that fit into the buffer to be written.
    - A buffer of length 0 may be NULL.
    - The buffers of one call must not overlap.
    - Nothing outside the lent buffers is read or written, nothing is allocated and nothing is kept between calls.
    - A refusal leaves every buffer as it was. A call that writes leaves what lies beyond its result as it was.
    - Every input has an answer; no call has a precondition besides those above.
+
+   Threads: calls keep no state, so they may run at the same time unless one writes a buffer that is lent to another.
+   Stack: bytes as measured (no bounds) on a table of 127 rows: check 272; write_text 368; list_point and list_search 512;
+   tree_point and tree_search 4,256; read_text 9,416; make_list: see docs/PERFORMANCE.md.
+   Cost: linear in the rows for check, tree_point and write_text; in the bytes for read_text; in samples * rows for tree_search;
+   in rows + list words for list_point; in samples * (rows + list words) for list_search; for make_list at most in
+   rows * (rows + expansion count).
 
    The table's refusals, in their order; each call that takes a table gives them first
       1  words not a multiple of 12, no row, or over 127 rows      value: words
@@ -29,6 +51,32 @@
 #ifdef __cplusplus
 extern "C" {
 #endif
+
+/* The header's own: hundreds rise where a program that was right may need a change, ones where something was added. */
+#define LAMPHOLLY_VERSION 100
+
+/* The kinds of rows. */
+#define LAMPHOLLY_BOX 0
+#define LAMPHOLLY_WEDGE 1
+#define LAMPHOLLY_DRUM 2
+#define LAMPHOLLY_UNION 3
+#define LAMPHOLLY_INTER 4
+#define LAMPHOLLY_DIFF 5
+
+/* The refusals: those of the table, then those that each call names. */
+#define LAMPHOLLY_REFUSED_LENGTH 1
+#define LAMPHOLLY_REFUSED_KIND 2
+#define LAMPHOLLY_REFUSED_FIELD 3
+#define LAMPHOLLY_REFUSED_CHILD 4
+#define LAMPHOLLY_REFUSED_TREE 5
+#define LAMPHOLLY_REFUSED_WINDOW 6
+#define LAMPHOLLY_REFUSED_EXPANSION 7
+#define LAMPHOLLY_REFUSED_ROOM 8
+#define LAMPHOLLY_REFUSED_LIST 9
+#define LAMPHOLLY_REFUSED_POINT 10
+#define LAMPHOLLY_REFUSED_PRIMITIVES 11
+#define LAMPHOLLY_REFUSED_FRAME 12
+#define LAMPHOLLY_REFUSED_TEXT 13
 
 /* What always suffices: a table of 127 rows, a list of 65,536 products, the longest text that can be read. */
 #define LAMPHOLLY_TABLE_WORDS 1524
@@ -73,7 +121,15 @@ struct lampholly_answer lampholly_tree_search(const int32_t *table, size_t words
 
 /* Normalises the zone to its list of products for the window, and writes that into list[0 .. room - 1].
    Word 0: number of products. Words 1 to 6: the window's bounds, each plus 32768. Word 7: number of primitives.
-   From word 8, two words a product: a bit for each uncomplemented primitive, then a bit for each complemented one.
+   From word 8, two words a product: a bit for each uncomplemented primitive, then a bit for each complemented one; primitive
+   i is bit i.
+   The list belongs to its table and its window. After a change of the table make it anew: a list of another zone with the same
+   number of primitives is not noticed, and answers for neither.
+   The expansion count is the last row's `in`, where
+      a primitive has         in = 1                      out = 1
+      a union has             in = left.in + right.in     out = left.out * right.out
+      an intersection has     in = left.in * right.in     out = left.out + right.out
+      a difference has        in = left.in * right.out    out = left.out + right.in
    Answers: written (0, words written, 0). A zone that misses the window gives 0 products: 8 words.
    Refusals: the table's; then
       6  a bound out of -32768..32767, or hi below lo (at hi)    value: first bad bound, 0..5, in the order of the struct
@@ -83,7 +139,8 @@ struct lampholly_answer lampholly_make_list(const int32_t *table, size_t words, 
                                             uint64_t *list, size_t room);
 
 /* Is the point in the list? It is when, for some product, it is in every uncomplemented primitive and in no complemented
-   one. A list that lampholly_make_list made from this table agrees with the tree at every point of its window.
+   one. A list that lampholly_make_list made from this very table agrees with the tree at every point of its window; whether
+   it was is not looked at, but for the number of primitives.
    A list may be lent longer than its products need; the rest is not read.
    Answers: outside (0, 0, 0) or inside (0, 1, 0).
    Refusals: the table's; then
@@ -103,7 +160,9 @@ struct lampholly_answer lampholly_list_search(const int32_t *table, size_t words
                                               const uint64_t *list, size_t list_words,
                                               const int16_t *codes, size_t samples, int32_t first, int32_t frame);
 
-/* Reads zone text into table[0 .. room - 1].
+/* Reads zone text into table[0 .. room - 1]. The first line is `zone` and the number of rows. Each further line is a row: box,
+   wedge, drum, union, inter or diff, then the words of its kind in decimal, a minus only before a negative one and no zero in
+   front. A tab stands between two, a line feed ends every line, and nothing follows the last.
    Answers: written (0, words written, 0).
    Refusals:
      13  over 16,384 bytes                       value: 0

@@ -3,6 +3,13 @@
 
 #include <stddef.h>
 
+typedef struct _IO_FILE FILE;
+
+extern FILE *stdin;
+
+FILE *fopen(const char *, const char *);
+int fclose(FILE *);
+size_t fread(void *, size_t, size_t, FILE *);
 int printf(const char *, ...);
 int sprintf(char *, const char *, ...);
 
