@@ -35,7 +35,7 @@ pub fn read_file(name: &[u8], text: &mut [u8]) -> usize
 }
 
 // The first position, from this one on, that has this byte; the text's length if none has.
-fn until(text: &[u8], from: usize, byte: u8) -> usize
+pub fn until(text: &[u8], from: usize, byte: u8) -> usize
     requires { ⌜ from ≤ length (now text) ⌝ }
     ensures { λ r. ⌜ (from ≤ r) × (r ≤ length (now (text .entry))) ⌝ }
 {
