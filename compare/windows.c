@@ -32,7 +32,7 @@ struct tally {
     uint64_t compared, inside, disagree, beside, refused;
 };
 
-/* The zones and walks of crates/windows/src/zones.rt, which says what each is for. */
+/* The zones and walks of crates/windows/data/zones, which says what each is for. */
 
 static const int32_t q_rows[][ROW_WORDS] = {
     {BOX, 0, 9}, {BOX, 9, 12}, {DIFF, 0, 1}, {BOX, 20, 29}, {UNION, 2, 3}, {BOX, 8, 25}, {INTER, 4, 5},

@@ -2,9 +2,6 @@
 use crate::coordinates;
 use crate::trial;
 use rules::Window;
-ghost use Prim.Native.Nat.{_≤_};
-ghost use mathlib.Core.Path.{_≡_};
-ghost use lib.ListN.{length};
 
 // The window with one axis moved, its lo by so much and its hi by so much.
 fn stepped(w: Window, axis: i32, lo: i32, hi: i32) -> Window {
@@ -35,40 +32,13 @@ fn first_window(row: [i32; 10]) -> Window {
     }
 }
 
-// One walk: the window is tried and moved, as many times as the row's last number says.
-fn walk(name: &[u8], table: &[i32], row: [i32; 10]) {
+// One walk: the window is tried and moved, as many times as the last number says.
+pub fn walk(name: &[u8], table: &[i32], row: [i32; 10]) {
     let mut w = first_window(row);
     let mut left = coordinates::size(1, row[9]);
     while 0 < left {
         trial::try_window(name, table, w);
         w = stepped(w, row[6], row[7], row[8]);
         left -= 1;
-    }
-}
-
-// A table from its rows.
-fn joined(rows: &[[i32; 12]]) -> [i32; 132]
-    requires { ⌜ length (now rows) ≤ 11 ⌝ }
-    ensures { λ r. ⌜ 132 ≡ length r ⌝ }
-{
-    let mut table: [i32; 132] = [0; 132];
-    let mut k: usize = 0;
-    while k < 12 * rows.len() {
-        table[k] = rows[k / 12][k % 12];
-        k += 1;
-    }
-    table
-}
-
-// All walks over the zone of these rows.
-pub fn walk_all(name: &[u8], rows: &[[i32; 12]], moves: &[[i32; 10]])
-    requires { ⌜ length (now rows) ≤ 11 ⌝ }
-{
-    let table = joined(rows);
-    let words = 12 * rows.len();
-    let mut k: usize = 0;
-    while k < moves.len() {
-        walk(name, &table[0..words], moves[k]);
-        k += 1;
     }
 }

@@ -4,7 +4,7 @@ use lib.IntN.{ℤ}
 use mir.Syntax.{w32, w64}
 use mir.Val.{SFits, toZ, ofZ}
 use Rattle.ground.proofs.Num.{widens, wide}
-use Rattle.windows.proofs.Spans.{between}
+use Rattle.lines.proofs.Between.{between}
 use Rattle.windows.proofs.coordinates.brought.Statement.{statement}
 use Rattle.windows.proofs.coordinates.brought.Tie as tie
 

@@ -1,0 +1,2 @@
+-- The laws that the programs' proofs cite.
+pub mod Between

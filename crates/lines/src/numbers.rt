@@ -1,0 +1,147 @@
+// The numbers of a line, from a position on.
+use crate::Filled;
+use rules::Window;
+ghost use Prim.Native.Nat.{_≤_, _<_};
+ghost use mathlib.Core.Path.{_≡_};
+ghost use lib.ListN.{length};
+
+// A window, and whether it was read right.
+pub struct Bounds {
+    pub right: bool,
+    pub window: Window,
+}
+
+// What was read is not right; so many places are filled all the same.
+pub fn wrong(count: usize) -> Filled
+    ensures { λ r. ⌜ r .count ≡ count ⌝ }
+{
+    Filled {
+        right: false,
+        count,
+    }
+}
+
+// Numbers that end before this byte, which has to be that of the line's end.
+pub fn ended(b: u8, count: usize) -> Filled
+    ensures { λ r. ⌜ r .count ≡ count ⌝ }
+{
+    let right = b == b'\n';
+    Filled { right, count }
+}
+
+// A number as a size, 0 for a negative one.
+pub fn size_of(v: i32) -> usize {
+    if v < 0 {
+        return 0;
+    }
+    v as usize
+}
+
+// Writes the numbers of a line after those that are there. At the text's end there are none.
+pub fn read_numbers(text: &[u8], at: usize, into: &mut [i32], before: usize) -> Filled
+    requires { ⌜ before ≤ length (now into) ⌝ }
+    ensures { λ r. ⌜ r .count ≤ length (now (into .exit)) ⌝ }
+{
+    let mut count = before;
+    let mut next = at;
+    while next < text.len() {
+        if text[next] != b' ' {
+            return ended(text[next], count);
+        }
+        let number = number::read_number(text, next + 1);
+        if !number.right {
+            return wrong(count);
+        }
+        if number.next <= next {
+            return wrong(count);
+        }
+        if into.len() <= count {
+            return wrong(count);
+        }
+        let value = number.value;
+        into[count] = value;
+        count += 1;
+        next = number.next;
+    }
+    Filled {
+        right: next == at,
+        count,
+    }
+}
+
+// Reads the numbers of a line, and answers whether they are just as many as there are places.
+pub fn read_just(text: &[u8], at: usize, into: &mut [i32]) -> bool {
+    let read = read_numbers(text, at, into, 0);
+    read.right & (read.count == into.len())
+}
+
+// A number as a code, brought between the least and the greatest.
+fn code(v: i32) -> i16 {
+    if v <= -32768 {
+        return -32768;
+    }
+    if 32767 <= v {
+        return 32767;
+    }
+    v as i16
+}
+
+// The place after one of so many, the first after the last.
+fn following(k: usize, n: usize) -> usize
+    requires { ⌜ k < n ⌝ }
+    ensures { λ r. ⌜ r < n ⌝ }
+{
+    if k + 1 < n {
+        return k + 1;
+    }
+    0
+}
+
+// Writes these codes, over and over, into all places.
+fn repeat(codes: &[i32], into: &mut [i16])
+    requires { ⌜ 0 < length (now codes) ⌝ }
+{
+    let mut k: usize = 0;
+    let mut of: usize = 0;
+    while k < into.len() {
+        into[k] = code(codes[of]);
+        of = following(of, codes.len());
+        k += 1;
+    }
+}
+
+// Writes the samples of a frame: their number is a line's first, and their codes are the others, over and over.
+pub fn read_frame(text: &[u8], at: usize, into: &mut [i16]) -> Filled
+    ensures { λ r. ⌜ r .count ≤ length (now (into .exit)) ⌝ }
+{
+    let mut n: [i32; 33] = [0; 33];
+    let read = read_numbers(text, at, &mut n, 0);
+    let last = read.count;
+    let count = size_of(n[0]);
+    if last < 2 {
+        return wrong(0);
+    }
+    if into.len() < count {
+        return wrong(0);
+    }
+    repeat(&n[1..last], &mut into[0..count]);
+    Filled {
+        right: read.right,
+        count,
+    }
+}
+
+// The window that a line's numbers give, and whether they are six.
+pub fn read_window(text: &[u8], at: usize) -> Bounds {
+    let mut n: [i32; 6] = [0; 6];
+    let right = read_just(text, at, &mut n);
+    let window = Window {
+        xlo: n[0],
+        xhi: n[1],
+        ylo: n[2],
+        yhi: n[3],
+        zlo: n[4],
+        zhi: n[5],
+    };
+    Bounds { right, window }
+}
