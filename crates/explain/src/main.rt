@@ -92,7 +92,7 @@ fn cut_by_row(table: &[i32], bits: &[u64; 127], row: usize, plain: u64, b: BoxSh
     }
     let reads = table::read_row(table, row);
     match reads {
-        Row::Solid(s) => cut_box(b, reach::box_of(s)),
+        Row::Solid(s) => cut_box(b, solid::box_of(s)),
         Row::Union(_, _) => b,
         Row::Inter(_, _) => b,
         Row::Diff(_, _) => b,

@@ -1,10 +1,8 @@
 // Which primitives' boxes share a point: with the window, with each other, and with a product's box. Sets of primitives are masks, primitive i as bit i.
 use rules::BoxShape;
-use rules::Primitive;
 use rules::Row;
 use rules::Window;
 ghost use Prim.Native.Nat.{_+_, _<_};
-ghost use mathlib.Core.Bool.{true};
 ghost use mathlib.Core.Option.{some};
 ghost use mathlib.Core.Path.{_≡_};
 ghost use Rattle.rules.specs.Boxes.{windowBox, share};
@@ -13,7 +11,7 @@ ghost use Rattle.rules.specs.Products.{boxOf};
 ghost use Rattle.rules.specs.declared.Primitive.{Primitive};
 ghost use Rattle.rules.specs.declared.Row.the-variants.{Solid};
 ghost use Rattle.rules.specs.Table.{rowCount, rowAt, primitivesBefore, primitives};
-ghost use Rattle.laws.specs.Sound.{Sound, solidRight};
+ghost use Rattle.laws.specs.Sound.{Sound};
 ghost use Rattle.laws.specs.Reach.{sharing};
 ghost use Rattle.reach.specs.Gathering.{apart, withOne, Gathers, meeting};
 
@@ -21,25 +19,6 @@ ghost use Rattle.reach.specs.Gathering.{apart, withOne, Gathers, meeting
 pub struct Gathered {
     pub set: u64,
     pub count: usize,
-}
-
-// A primitive's box.
-pub fn box_of(s: Primitive) -> BoxShape
-    requires { ⌜ solidRight s ≡ true ⌝ }
-    ensures { λ r. ⌜ bounds r ≡ boxOf s ⌝ }
-{
-    match s {
-        Primitive::Box(b) => b,
-        Primitive::Wedge(w) => w.bounds,
-        Primitive::Drum(d) => BoxShape {
-            xlo: d.cx - d.rx,
-            xhi: d.cx + d.rx,
-            ylo: d.cy - d.ry,
-            yhi: d.cy + d.ry,
-            zlo: d.zlo,
-            zhi: d.zhi,
-        },
-    }
 }
 
 // Two spans have nothing in common.
@@ -80,7 +59,7 @@ fn gather(table: &[i32], row: usize, b: BoxShape, g: Gathered) -> Gathered
 {
     let reads = table::read_row(table, row);
     match reads {
-        Row::Solid(s) => added(g, boxes_share(box_of(s), b)),
+        Row::Solid(s) => added(g, boxes_share(solid::box_of(s), b)),
         Row::Union(_, _) => g,
         Row::Inter(_, _) => g,
         Row::Diff(_, _) => g,
@@ -126,7 +105,7 @@ pub fn sharing_row(table: &[i32], row: usize) -> u64
 {
     let reads = table::read_row(table, row);
     match reads {
-        Row::Solid(s) => sharing_with(table, box_of(s)),
+        Row::Solid(s) => sharing_with(table, solid::box_of(s)),
         Row::Union(_, _) => 0,
         Row::Inter(_, _) => 0,
         Row::Diff(_, _) => 0,

@@ -1,4 +1,4 @@
-// Whether a point is inside a primitive. Exact over the whole range: products and sums are taken in 64 bits.
+// What there is to know of a primitive: whether a point is inside it, and its box. Exact over the whole range: products and sums are taken in 64 bits.
 use rules::BoxShape;
 use rules::DrumShape;
 use rules::Point;
@@ -10,6 +10,7 @@ ghost use Rattle.rules.specs.Ranges.{within, columns, codes, frames};
 ghost use Rattle.rules.specs.Boxes.{holds, everywhere};
 ghost use Rattle.rules.specs.Fields.{slopes, radii, wedgeRight, drumRight};
 ghost use Rattle.rules.specs.Inside.{bounds, halfSpace, inEllipse, insideWedge, insideDrum, insideSolid};
+ghost use Rattle.rules.specs.Products.{boxOf};
 ghost use Rattle.laws.specs.Sound.{solidRight};
 
 fn in_box(b: BoxShape, p: Point) -> bool
@@ -75,5 +76,24 @@ pub fn in_solid(s: Primitive, p: Point) -> bool
         Primitive::Box(b) => in_box(b, p),
         Primitive::Wedge(w) => in_wedge(w, p),
         Primitive::Drum(d) => in_drum(d, p),
+    }
+}
+
+// A primitive's box.
+pub fn box_of(s: Primitive) -> BoxShape
+    requires { ⌜ solidRight s ≡ true ⌝ }
+    ensures { λ r. ⌜ bounds r ≡ boxOf s ⌝ }
+{
+    match s {
+        Primitive::Box(b) => b,
+        Primitive::Wedge(w) => w.bounds,
+        Primitive::Drum(d) => BoxShape {
+            xlo: d.cx - d.rx,
+            xhi: d.cx + d.rx,
+            ylo: d.cy - d.ry,
+            yhi: d.cy + d.ry,
+            zlo: d.zlo,
+            zhi: d.zhi,
+        },
     }
 }

@@ -11,8 +11,8 @@ use Rattle.rules.specs.Products.{boxOf}
 use Rattle.laws.specs.Sound.{solidRight}
 use Rattle.laws.proofs.Ranges.{cx-in, cy-in, rx-in, ry-in}
 use Rattle.laws.proofs.Spans.{even-span, upper-span}
-use Rattle.reach.proofs.box_of.Statement.{statement}
-use Rattle.reach.proofs.box_of.Tie as tie
+use Rattle.solid.proofs.box_of.Statement.{statement}
+use Rattle.solid.proofs.box_of.Tie as tie
 
 -- where the primitive is a drum
 module _ (c : tie.After-struct-told) where
