@@ -22,6 +22,14 @@ const LIST_SEARCH: usize = 12;
 
 const MAKE_LIST: usize = 13;
 
+fn point_of(n: [i32; 3]) -> Point {
+    Point {
+        x: n[0],
+        y: n[1],
+        z: n[2],
+    }
+}
+
 // Makes a list in the first words of a buffer, and tells how that went and what the buffer holds.
 fn tell_list(table: &[i32], window: Window, list: &mut [u64], room: usize)
     requires { ⌜ room ≤ length (now list) ⌝ }
@@ -38,7 +46,9 @@ fn tell_list(table: &[i32], window: Window, list: &mut [u64], room: usize)
     }
 }
 
-fn make_list(text: &[u8], window: usize, room: usize, of: usize, table: &[i32]) -> bool {
+fn make_list(text: &[u8], window: usize, n: [i32; 3], table: &[i32]) -> bool {
+    let room = numbers::size_of(n[0]);
+    let of = numbers::size_of(n[1]);
     let bounds = numbers::read_window(text, window);
     if !bounds.right {
         return false;
@@ -57,46 +67,44 @@ fn make_list(text: &[u8], window: usize, room: usize, of: usize, table: &[i32]) 
 fn search(
     text: &[u8],
     call: usize,
-    held: &[usize; 8],
+    frame: usize,
     place: Place,
     table: &[i32],
     list: &[u64],
 ) -> bool {
-    let mut samples: [i16; 65537] = [0; 65537];
-    let read = numbers::read_frame(text, held[crate::FRAME], &mut samples);
+    let mut codes: [i16; 65537] = [0; 65537];
+    let read = numbers::read_frame(text, frame, &mut codes);
     if !read.right {
         return false;
     }
     let count = read.count;
+    let samples = &codes[0..count];
     if call == TREE_SEARCH {
-        telling::searched(zone::tree_search(table, &samples[0..count], place));
+        telling::searched(zone::tree_search(table, samples, place));
         return true;
     }
-    telling::searched(zone::list_search(table, list, &samples[0..count], place));
+    telling::searched(zone::list_search(table, list, samples, place));
     true
 }
 
-fn ask_list(text: &[u8], call: usize, held: &[usize; 8], n: [i32; 3], table: &[i32]) -> bool {
-    let mut list: [u64; 256] = [0; 256];
-    let read = words::read_words(text, held[crate::LIST], &mut list);
-    let count = read.count;
+// Asks of the list, of a frame or of both.
+fn ask_more(text: &[u8], call: usize, held: &[usize; 8], n: [i32; 3], table: &[i32]) -> bool {
+    let mut words: [u64; 256] = [0; 256];
+    let read = words::read_words(text, held[crate::LIST], &mut words);
     if !read.right {
         return false;
     }
+    let count = read.count;
+    let list = &words[0..count];
     if call == LIST_POINT {
-        let point = Point {
-            x: n[0],
-            y: n[1],
-            z: n[2],
-        };
-        telling::located(zone::list_point(table, &list[0..count], point));
+        telling::located(zone::list_point(table, list, point_of(n)));
         return true;
     }
     let place = Place {
         first: n[0],
         frame: n[1],
     };
-    search(text, call, held, place, table, &list[0..count])
+    search(text, call, held[crate::FRAME], place, table, list)
 }
 
 // How many numbers a call has; more than any for a word that is none.
@@ -113,35 +121,27 @@ fn numbers_of(call: usize) -> usize {
     4
 }
 
-// Asks, and tells the answer, if the word is a call that has its numbers.
-pub fn ask(text: &[u8], word: Word, held: &[usize; 8], table: &[i32]) -> bool {
-    let call = word.place;
-    let mut n: [i32; 3] = [0; 3];
-    let read = numbers::read_numbers(text, word.next, &mut n, 0);
-    if !read.right | (read.count != numbers_of(call)) {
-        return false;
-    }
+fn tell(text: &[u8], call: usize, held: &[usize; 8], n: [i32; 3], table: &[i32]) -> bool {
     if call == CHECK_TABLE {
         telling::checked(zone::check_table(table));
         return true;
     }
     if call == TREE_POINT {
-        let point = Point {
-            x: n[0],
-            y: n[1],
-            z: n[2],
-        };
-        telling::located(zone::tree_point(table, point));
+        telling::located(zone::tree_point(table, point_of(n)));
         return true;
     }
     if call == MAKE_LIST {
-        return make_list(
-            text,
-            held[crate::WINDOW],
-            numbers::size_of(n[0]),
-            numbers::size_of(n[1]),
-            table,
-        );
+        return make_list(text, held[crate::WINDOW], n, table);
     }
-    ask_list(text, call, held, n, table)
+    ask_more(text, call, held, n, table)
+}
+
+// Asks, and tells the answer, if the word is a call that has its numbers.
+pub fn ask(text: &[u8], word: Word, held: &[usize; 8], table: &[i32]) -> bool {
+    let mut n: [i32; 3] = [0; 3];
+    let read = numbers::read_numbers(text, word.next, &mut n, 0);
+    if !read.right | (read.count != numbers_of(word.place)) {
+        return false;
+    }
+    tell(text, word.place, held, n, table)
 }

@@ -62,12 +62,6 @@ fn obey(text: &[u8], line: usize, start: usize, word: Word, held: &[usize; 8]) -
     right
 }
 
-fn fault(line: u64) {
-    io::write_all(1, b"line ");
-    io::print_decimal(1, line);
-    io::write_all(1, b" of the questions asks nothing, or of nothing\n");
-}
-
 fn obey_all(text: &[u8]) {
     let mut held: [usize; 8] = [text.len(); 8];
     let mut at: usize = 0;
@@ -77,7 +71,7 @@ fn obey_all(text: &[u8]) {
         let word = word_at(text, start);
         keep(&mut held, word);
         if !obey(text, at, start, word, &held) {
-            fault(line);
+            lines::fault(line);
             return;
         }
         at = lines::next_line(text, at);

@@ -34,6 +34,16 @@ pub fn read_file(name: &[u8], text: &mut [u8]) -> usize
     size
 }
 
+// Tells a line that says nothing, or says it of something that is not right.
+pub fn fault(line: u64) {
+    io::write_all(1, b"line ");
+    io::print_decimal(1, line);
+    io::write_all(
+        1,
+        b" of the data is not right, or what it is about is not\n",
+    );
+}
+
 // The first position, from this one on, that has this byte; the text's length if none has.
 pub fn until(text: &[u8], from: usize, byte: u8) -> usize
     requires { ⌜ from ≤ length (now text) ⌝ }

@@ -75,6 +75,10 @@ pub fn read_just(text: &[u8], at: usize, into: &mut [i32]) -> bool {
     read.right & (read.count == into.len())
 }
 
+fn is_code(v: i32) -> bool {
+    (-32768 <= v) & (v <= 32767)
+}
+
 // A number as a code, brought between the least and the greatest.
 fn code(v: i32) -> i16 {
     if v <= -32768 {
@@ -97,17 +101,20 @@ fn following(k: usize, n: usize) -> usize
     0
 }
 
-// Writes these codes, over and over, into all places.
-fn repeat(codes: &[i32], into: &mut [i16])
+// Writes these codes, over and over, into all places, and answers whether each of them is one.
+fn repeat(codes: &[i32], into: &mut [i16]) -> bool
     requires { ⌜ 0 < length (now codes) ⌝ }
 {
+    let mut right = true;
     let mut k: usize = 0;
     let mut of: usize = 0;
     while k < into.len() {
         into[k] = code(codes[of]);
+        right = right & is_code(codes[of]);
         of = following(of, codes.len());
         k += 1;
     }
+    right
 }
 
 // Writes the samples of a frame: their number is a line's first, and their codes are the others, over and over.
@@ -124,9 +131,9 @@ pub fn read_frame(text: &[u8], at: usize, into: &mut [i16]) -> Filled
     if into.len() < count {
         return wrong(0);
     }
-    repeat(&n[1..last], &mut into[0..count]);
+    let right = repeat(&n[1..last], &mut into[0..count]);
     Filled {
-        right: read.right,
+        right: right & read.right,
         count,
     }
 }

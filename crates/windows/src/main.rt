@@ -60,12 +60,6 @@ fn obey(text: &[u8], zone: usize, line: usize, word: Word) -> bool
     word.place <= ZONE
 }
 
-fn fault(line: u64) {
-    io::write_all(1, b"line ");
-    io::print_decimal(1, line);
-    io::write_all(1, b" of the zones is no walk, or is one over no zone\n");
-}
-
 fn obey_all(text: &[u8]) {
     let mut zone: usize = 0;
     let mut at: usize = 0;
@@ -75,7 +69,7 @@ fn obey_all(text: &[u8]) {
         let word = lines::read_word(text, start, b"\nrow\nwords\nagain\nzone\nwalk\n");
         zone = zone_of(word, at, zone);
         if !obey(text, zone, at, word) {
-            fault(line);
+            lines::fault(line);
             return;
         }
         at = lines::next_line(text, at);

@@ -6,10 +6,10 @@ use Rattle.lines.proofs.numbers.repeat.Statement.{statement}
 use Rattle.lines.proofs.numbers.repeat.Tie as tie
 
 abbrev Inv-loop : tie.InvT-loop
-Inv-loop codes into₀ k₀ of₀ into k of = (k ≤ length into₀) × ((of < length codes) × (length into ≡ length into₀))
+Inv-loop codes into₀ right₀ k₀ of₀ into right k of = (k ≤ length into₀) × ((of < length codes) × (length into ≡ length into₀))
 
 abbrev μ-loop : tie.MeasureT-loop
-μ-loop codes into₀ k₀ of₀ into k of = length into₀ - k
+μ-loop codes into₀ right₀ k₀ of₀ into right k of = length into₀ - k
 
 loop-holds : tie.Need-loop-holds Inv-loop μ-loop
 loop-holds c = search needs
@@ -23,11 +23,20 @@ shared-slice-copy-out-code c = search needs
 code-requires : tie.Need-code-requires Inv-loop μ-loop
 code-requires c κs = search needs
 
-mul-t10 : tie.Need-mul-t10 Inv-loop μ-loop
-mul-t10 c = search needs
+mul-t11 : tie.Need-mul-t11 Inv-loop μ-loop
+mul-t11 c = search needs
 
 slice-set-from-into : tie.Need-slice-set-from-into Inv-loop μ-loop
 slice-set-from-into c = search needs
+
+mul-is-code : tie.Need-mul-is-code Inv-loop μ-loop
+mul-is-code c = search needs
+
+shared-slice-copy-out-is-code : tie.Need-shared-slice-copy-out-is-code Inv-loop μ-loop
+shared-slice-copy-out-is-code c = search needs
+
+is-code-requires : tie.Need-is-code-requires Inv-loop μ-loop
+is-code-requires c κs = search needs
 
 following-requires : tie.Need-following-requires Inv-loop μ-loop
 following-requires c κs = search needs
@@ -57,8 +66,11 @@ repeat-spec =
     mul-code
     shared-slice-copy-out-code
     code-requires
-    mul-t10
+    mul-t11
     slice-set-from-into
+    mul-is-code
+    shared-slice-copy-out-is-code
+    is-code-requires
     following-requires
     add-k
     loop-less
