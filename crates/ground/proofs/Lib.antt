@@ -9,3 +9,5 @@ pub mod Pieces
 pub mod Order
 pub mod Masks
 pub mod Writes
+pub mod Kept
+pub mod Namings

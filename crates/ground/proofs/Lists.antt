@@ -1,6 +1,7 @@
 -- Laws of lists: a property of every element, and one list put after another. Assumes nothing.
 use Prim.Native.Nat.{ℕ, zero, suc, _<_}
 use native.Mathlib.Nat.{not-suc-le-zero, le-of-suc-le-suc}
+use native.Mathlib.Omega.{arith}
 use mathlib.Core.Bool.{Bool, true, false, _||_}
 use mathlib.Core.Option.{none, some}
 use mathlib.Core.Path.{_≡_, refl, sym, ap, ap₂, subst, _∙_}
@@ -67,3 +68,8 @@ pub any-same : {A : Type 0} (p q : A → Bool) (xs : List A) → All (λ x. p x 
 unfolding anyOf
 any-same p q [] h = refl
 any-same p q (x ∷ xs) h = ap₂ _||_ (h .0) (any-same p q xs (h .1))
+
+-- what holds at each place holds of every element
+pub all-by-place : {A : Type 0} (P : A → Type 0) (d : A) (xs : List A) → ((k : ℕ) → k < length xs → P (getD xs k d)) → All P xs
+all-by-place P d [] h = tt
+all-by-place P d (x ∷ xs) h = (h 0 (omega arith), all-by-place P d xs (λ k l. h (suc k) (omega arith)))

@@ -12,7 +12,7 @@ use Rattle.ground.specs.Lists.{anyOf, keepIf}
 use Rattle.ground.proofs.Branches.{and-left, and-right}
 use Rattle.rules.specs.declared.Product.{Product}
 use Rattle.rules.specs.Products.{same, firsts}
-use Rattle.laws.proofs.Kept.{kept-append, kept-length}
+use Rattle.ground.proofs.Kept.{kept-append, kept-length}
 
 pub same-equal : (c d : Product) → same c d ≡ true → c ≡ d
 same-equal c d h =

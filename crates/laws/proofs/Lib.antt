@@ -14,7 +14,6 @@ pub mod Reach
 pub mod Ways
 pub mod Blanks
 pub mod Repeats
-pub mod Kept
 pub mod Firsts
 pub mod Survivors
 pub mod Windows

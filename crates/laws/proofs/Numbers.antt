@@ -14,7 +14,7 @@ use Rattle.rules.specs.declared.Row.{Row}
 use Rattle.rules.specs.declared.Row.the-variants.{Solid}
 use Rattle.rules.specs.Table.{rowCount, rowAt, solidOf, primitivesBefore, primitives}
 use Rattle.rules.specs.Tree.{nowhere}
-use Rattle.laws.proofs.Apart.{next-row}
+use Rattle.ground.proofs.Namings.{next-row}
 
 module _ (t : List ℤ) where
   next-primitives : (row : ℕ) → primitivesBefore t (suc row) ≡ primitivesBefore t row ++ solidOf (rowAt t row)

@@ -16,7 +16,7 @@ use Rattle.laws.specs.Plans.{Plan, ways, count, kth, Apart, fresh}
 use Rattle.laws.specs.Survivors.{pruned, survivors}
 use Rattle.laws.proofs.Ways.{ways-count, ways-kth}
 use Rattle.laws.proofs.Repeats.{fresh-first, stale-repeat}
-use Rattle.laws.proofs.Kept.{kept-append, kept-length, any-found, found-any, any-made}
+use Rattle.ground.proofs.Kept.{kept-append, kept-length, any-found, found-any, any-made}
 use Rattle.laws.proofs.Firsts.{same-equal, equal-same, firsts-last, firsts-length}
 
 pub survivors-all : (p : Plan) → take (count p) (ways p) ≡ ways p

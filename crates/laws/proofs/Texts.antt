@@ -33,7 +33,7 @@ use Rattle.rules.specs.Verdict.{lengthRefusal, rowRefusalBy, rowRefusal, rowsRe
 use Rattle.rules.proofs.Lines.{noRow}
 use Rattle.rules.proofs.Told.{wrote-none}
 use Rattle.laws.specs.Sound.{Sound}
-use Rattle.laws.proofs.Apart.{next-row}
+use Rattle.ground.proofs.Namings.{next-row}
 use Rattle.laws.proofs.KindNumbers.{number-kind, kind-number}
 use Rattle.laws.proofs.Soundness.{unless-kept, table-sound}
 use Rattle.laws.proofs.TextLengths.{few-named, Named, text-most}

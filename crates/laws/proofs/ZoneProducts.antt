@@ -1,15 +1,16 @@
 -- The products of a sound table in a right window are the survivors of its ways of choosing; and where the call that makes them wrote, they are in
 -- the buffer. Assumes nothing.
-use Prim.Native.Nat.{ℕ, suc, _-_, _^_, _<_}
+use Prim.Native.Nat.{ℕ, _-_, _^_, _<_}
 use native.Mathlib.Nat.{lt-of-le-of-lt}
 use native.Mathlib.Omega.{arith}
-use mathlib.Core.List.{List, [], _∷_}
+use mathlib.Core.List.{List}
 use mathlib.Core.Option.{Option, none}
 use mathlib.Core.Path.{_≡_, sym, ap, subst, _∙_}
 use lib.Bits.{and-le-r}
 use lib.IntN.{ℤ}
 use lib.ListN.{length, getD}
 use Rattle.ground.specs.Lists.{All}
+use Rattle.ground.proofs.Lists.{all-by-place}
 use Rattle.rules.specs.declared.Product.{Product}
 use Rattle.rules.specs.declared.Refusal.{Refusal}
 use Rattle.rules.specs.declared.Window.{Window}
@@ -30,10 +31,6 @@ use Rattle.laws.proofs.Ways.{choices-ways, ways-count, ways-kth, kth-wi
 use Rattle.laws.proofs.Windows.{window-filled}
 
 -- ---- a sound table and a right window
-
-all-by-place : {A : Type 0} (P : A → Type 0) (d : A) (xs : List A) → ((k : ℕ) → k < length xs → P (getD xs k d)) → All P xs
-all-by-place P d [] h = tt
-all-by-place P d (x ∷ xs) h = (h 0 (omega arith), all-by-place P d xs (λ k l. h (suc k) (omega arith)))
 
 ways-below : (p : Plan) (n : ℕ) → mask p < 2 ^ n → All (λ (c : Product). c .plain < 2 ^ n) (ways p)
 ways-below p n h = all-by-place (λ c. c .plain < 2 ^ n) (kth p 0) (ways p) at

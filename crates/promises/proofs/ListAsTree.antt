@@ -4,18 +4,18 @@ use native.Mathlib.Nat.{le-refl}
 use native.Mathlib.Numerals.{add-one}
 use native.Mathlib.Omega.{arith}
 use mathlib.Core.Bool.{Bool, true, false, _&&_}
-use mathlib.Core.List.{List, [], _∷_, _++_}
-use mathlib.Core.Option.{Option, none, some}
+use mathlib.Core.List.{List, _++_}
+use mathlib.Core.Option.{Option, none}
 use mathlib.Core.Path.{_≡_, refl, sym, ap, ap₂, _∙_}
 use borrow.Author.Tests.{leb-true}
 use lib.Dec.{leb}
 use lib.IntN.{ℤ}
 use lib.ListN.{length, drop}
 use lib.Signed.{leZ}
-use Rattle.ground.specs.Lists.{All, below, anyOf, countIf, findIf, orElse, firstOf, rulings}
-use Rattle.ground.specs.Tests.{if_then_else_}
+use Rattle.ground.specs.Lists.{All, below, anyOf, orElse, firstOf, rulings}
 use Rattle.ground.proofs.Branches.{false-true, and-left, and-right}
 use Rattle.ground.proofs.Counting.{numbers-below, kept, all-kept, or-else-none, first-kept}
+use Rattle.ground.proofs.Kept.{find-same, count-same}
 use Rattle.ground.proofs.Lists.{all-map}
 use Rattle.ground.proofs.Order.{leZ-trans}
 use Rattle.rules.specs.declared.Located.{Located}
@@ -86,18 +86,6 @@ module _ (box : Box) (samples : List ℤ) (place : Place) where
       held-upto k (omega arith) (λ j l. held j (omega arith))
       ∙ kept sampleRule k (length samples) h (ap (λ (b : Bool). refuseUnless b 10 k) (held k (omega arith)))
       ∙ ap (λ (j : ℕ). rulings sampleRule j (length samples)) (add-one k)
-
--- tests that agree on each element find the same one, and count as many
-module _ {A : Type 0} (p q : A → Bool) where
-  find-same : (xs : List A) → All (λ x. p x ≡ q x) xs → findIf p xs ≡ findIf q xs
-  unfolding findIf
-  find-same [] h = refl
-  find-same (x ∷ xs) h = λ i. if h .0 i then some x else find-same xs (h .1) i
-
-  count-same : (xs : List A) → All (λ x. p x ≡ q x) xs → countIf p xs ≡ countIf q xs
-  unfolding countIf
-  count-same [] h = refl
-  count-same (x ∷ xs) h = λ i. if h .0 i then suc (count-same xs (h .1) i) else count-same xs (h .1) i
 
 -- two ways to be inside that agree at each sample
 module _ (f g : Point → Bool) (samples : List ℤ) (place : Place)

@@ -16,7 +16,7 @@ use Rattle.ground.proofs.Counting.{below-last}
 use Rattle.ground.proofs.Lists.{map-at}
 use Rattle.rules.specs.declared.Product.{Product}
 use Rattle.laws.specs.Survivors.{pruned, survivors}
-use Rattle.laws.proofs.Kept.{kept-append, keptAt, kept-passes, kept-rising, passes-kept}
+use Rattle.ground.proofs.Kept.{kept-append, keptAt, kept-passes, kept-rising, passes-kept}
 use Rattle.laws.proofs.Survivors.{comes, new, survivors-step, came-at, at-came, survivors-none}
 
 -- the choice behind each product of a list: in the same order, and the first of those that stay and come to that product

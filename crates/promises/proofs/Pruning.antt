@@ -31,7 +31,7 @@ use Rattle.rules.specs.Tree.{Tree}
 use Rattle.laws.specs.Sound.{solidRight, RowRight, Sound}
 use Rattle.promises.proofs.Agreement.{box-holds}
 use Rattle.laws.proofs.Firsts.{same-equal}
-use Rattle.laws.proofs.Kept.{any-made}
+use Rattle.ground.proofs.Kept.{any-made}
 use Rattle.laws.proofs.Reach.{digit-odd, digit-half}
 use Rattle.laws.proofs.Spaces.{implied-left, greater-most, lesser-least, filled, by-axis, filled-axes, and-swap, axes-swap, cut}
 

@@ -5,11 +5,12 @@ use native.Mathlib.Nat.{le-of-suc-le-suc, not-suc-le-zero}
 use native.Mathlib.Omega.{arith}
 use mathlib.Core.Bool.{Bool, true, false, _&&_, _||_, or-true}
 use mathlib.Core.List.{List, [], _∷_, _++_, map}
+use mathlib.Core.Option.{some}
 use mathlib.Core.Path.{_≡_, refl, sym, ap, _∙_}
 use lib.ListN.{length, getD}
 use Rattle.ground.specs.Tests.{if_then_else_}
-use Rattle.ground.specs.Lists.{from, anyOf, keepIf}
+use Rattle.ground.specs.Lists.{All, from, anyOf, keepIf, countIf, findIf}
 use Rattle.ground.proofs.Branches.{false-true}
 
 module _ {A : Type 0} (test : A → Bool) where
   pub kept-append : (xs ys : List A) → keepIf test (xs ++ ys) ≡ keepIf test xs ++ keepIf test ys
@@ -115,3 +116,15 @@ module _ (test : ℕ → Bool) where
       go true e (no m) f = (0, omega arith, omega arith)
       go false e (yes m) f = f m (omega arith) h
       go false e (no m) f = let same-place : start ≡ i = omega arith in false-true (sym e ∙ ap test same-place ∙ h)
+
+-- tests that agree on each element find the same one, and count as many
+module _ {A : Type 0} (p q : A → Bool) where
+  pub find-same : (xs : List A) → All (λ x. p x ≡ q x) xs → findIf p xs ≡ findIf q xs
+  unfolding findIf
+  find-same [] h = refl
+  find-same (x ∷ xs) h = λ i. if h .0 i then some x else find-same xs (h .1) i
+
+  pub count-same : (xs : List A) → All (λ x. p x ≡ q x) xs → countIf p xs ≡ countIf q xs
+  unfolding countIf
+  count-same [] h = refl
+  count-same (x ∷ xs) h = λ i. if h .0 i then suc (count-same xs (h .1) i) else count-same xs (h .1) i
