@@ -6,9 +6,9 @@ use rules::Located;
 use rules::Place;
 use rules::Point;
 use rules::Product;
-use rules::Row;
 use rules::Searched;
 use rules::Window;
+use table::Leaf;
 ghost use Prim.Native.Nat.{_+_, _<_};
 ghost use mathlib.Core.Bool.{true};
 ghost use mathlib.Core.Option.{none};
@@ -35,12 +35,10 @@ fn hold_row(table: &[i32], row: usize, p: Point, g: Gathered) -> Gathered
     requires { ⌜ Gathers (primitivesBefore (now table) row) (holding p) g ⌝ }
     ensures { λ r. ⌜ Gathers (primitivesBefore (now (table .entry)) (row + 1)) (holding p) r ⌝ }
 {
-    let reads = table::read_row(table, row);
-    match reads {
-        Row::Solid(s) => reach::added(g, solid::in_solid(s, p)),
-        Row::Union(_, _) => g,
-        Row::Inter(_, _) => g,
-        Row::Diff(_, _) => g,
+    let leaf = table::primitive_at(table, row);
+    match leaf {
+        Leaf::Solid(s) => reach::added(g, solid::in_solid(s, p)),
+        Leaf::None => g,
     }
 }
 

@@ -1,5 +1,5 @@
 -- Sets of primitives that are gathered row by row come to the sets of all of them. Assumes nothing.
-use Prim.Native.Nat.{ℕ, suc, _+_, _^_, _<_}
+use Prim.Native.Nat.{ℕ, suc, _+_, _^_}
 use native.Mathlib.Omega.{arith}
 use mathlib.Core.Bool.{Bool}
 use mathlib.Core.List.{List, [], _∷_, _++_, append-nil}
@@ -13,11 +13,8 @@ use Rattle.ground.specs.Bits.{placesOf}
 use Rattle.ground.specs.Tests.{if_then_else_}
 use Rattle.ground.proofs.Counting.{flatMap-next}
 use Rattle.rules.specs.declared.Primitive.{Primitive}
-use Rattle.rules.specs.declared.Row.{Row}
 use Rattle.rules.specs.declared.Row.the-variants.{Solid}
-use Rattle.rules.specs.Table.{rowCount, rowAt, solidOf, primitivesBefore}
-use Rattle.laws.specs.Sound.{Sound}
-use Rattle.laws.proofs.Expansion.{number-fits}
+use Rattle.rules.specs.Table.{rowAt, solidOf, primitivesBefore}
 use Rattle.laws.proofs.Reach.{places-next}
 use Rattle.reach.specs.declared.Gathered.{Gathered}
 use Rattle.reach.specs.Gathering.{withOne, Gathers}
@@ -42,31 +39,18 @@ module _ (solids : List Primitive) (s : Primitive) where
 
 -- ---- one row more
 
--- a primitive's number, where a row was read as one
-pub number-right : {t : List ℤ} {row : ℕ} → Sound t → row < rowCount t → {x : Row} {s : Primitive} → some x ≡ rowAt t row → x ≡ Solid s
-    → length (primitivesBefore t row) < 64
-number-right {t} {row} S l e g = number-fits t S row l (sym e ∙ ap some g)
-
--- a row that was read as r
-module _ (t : List ℤ) (row : ℕ) {x r : Row} (e : some x ≡ rowAt t row) (g : x ≡ r) where
-  -- its primitive comes after those before it
-  pub row-more : primitivesBefore t row ++ solidOf (some r) ≡ primitivesBefore t (row + 1)
-  row-more = ap (λ y. primitivesBefore t row ++ solidOf y) (ap some (sym g) ∙ e) ∙ sym (flatMap-next (λ k. solidOf (rowAt t k)) row)
-
-  pub none-more : solidOf (some r) ≡ [] → primitivesBefore t row ≡ primitivesBefore t (row + 1)
-  none-more h = sym (append-nil (primitivesBefore t row)) ∙ ap (λ (ps : List Primitive). primitivesBefore t row ++ ps) (sym h) ∙ row-more
-
-  pub one-more : {s : Primitive} → r ≡ Solid s → length (primitivesBefore t (row + 1)) ≡ length (primitivesBefore t row) + 1
-  one-more {s} h =
-      ap (λ (ps : List Primitive). length ps) (sym row-more ∙ ap (λ (y : Row). primitivesBefore t row ++ solidOf (some y)) h)
-      ∙ length-append (primitivesBefore t row) (s ∷ [])
+module _ (t : List ℤ) (row : ℕ) where
+  next-solids : {solids : List Primitive} → solidOf (rowAt t row) ≡ solids → primitivesBefore t row ++ solids ≡ primitivesBefore t (row + 1)
+  next-solids e = ap (λ (ps : List Primitive). primitivesBefore t row ++ ps) (sym e) ∙ sym (flatMap-next (λ k. solidOf (rowAt t k)) row)
 
   module _ (test : Primitive → Bool) (found : Gathered) (G : Gathers (primitivesBefore t row) test found) where
-    -- a primitive is added by the test of it, and an operation leaves all as it is
-    pub row-gathers : {s : Primitive} → r ≡ Solid s → Gathers (primitivesBefore t (row + 1)) test (withOne found (test s))
-    row-gathers {s} h =
-        subst (λ (ps : List Primitive). Gathers ps test (withOne found (test s))) (ap (λ (y : Row). primitivesBefore t row ++ solidOf (some y)) (sym h) ∙ row-more)
+    -- a primitive is added by the test of it
+    pub leaf-gathers : {s : Primitive} → rowAt t row ≡ some (Solid s) → Gathers (primitivesBefore t (row + 1)) test (withOne found (test s))
+    leaf-gathers {s} e =
+        subst (λ (ps : List Primitive). Gathers ps test (withOne found (test s))) (next-solids (ap solidOf e))
         (gathers-more (primitivesBefore t row) s test found G)
 
-    pub row-passes : solidOf (some r) ≡ [] → Gathers (primitivesBefore t (row + 1)) test found
-    row-passes h = subst (λ (ps : List Primitive). Gathers ps test found) (none-more h) G
+    -- where there is none, all stays as it is
+    pub none-gathers : solidOf (rowAt t row) ≡ [] → Gathers (primitivesBefore t (row + 1)) test found
+    none-gathers e =
+        subst (λ (ps : List Primitive). Gathers ps test found) (sym (append-nil (primitivesBefore t row)) ∙ next-solids e) G

@@ -1,7 +1,7 @@
 // Which primitives' boxes share a point: with the window, with each other, and with a product's box. Sets of primitives are masks, primitive i as bit i.
 use rules::BoxShape;
-use rules::Row;
 use rules::Window;
+use table::Leaf;
 ghost use Prim.Native.Nat.{_+_, _<_};
 ghost use mathlib.Core.Option.{some};
 ghost use mathlib.Core.Path.{_≡_};
@@ -57,12 +57,10 @@ fn gather(table: &[i32], row: usize, b: BoxShape, g: Gathered) -> Gathered
     requires { ⌜ Gathers (primitivesBefore (now table) row) (meeting (bounds b)) g ⌝ }
     ensures { λ r. ⌜ Gathers (primitivesBefore (now (table .entry)) (row + 1)) (meeting (bounds b)) r ⌝ }
 {
-    let reads = table::read_row(table, row);
-    match reads {
-        Row::Solid(s) => added(g, boxes_share(solid::box_of(s), b)),
-        Row::Union(_, _) => g,
-        Row::Inter(_, _) => g,
-        Row::Diff(_, _) => g,
+    let leaf = table::primitive_at(table, row);
+    match leaf {
+        Leaf::Solid(s) => added(g, boxes_share(solid::box_of(s), b)),
+        Leaf::None => g,
     }
 }
 
@@ -103,11 +101,9 @@ pub fn sharing_row(table: &[i32], row: usize) -> u64
     requires { ⌜ row < rowCount (now table) ⌝ }
     ensures { λ r. ⌜ ((s : Primitive) → rowAt (now (table .entry)) row ≡ some (Solid s) → r ≡ sharing (primitives (now (table .entry))) (boxOf s)) ⌝ }
 {
-    let reads = table::read_row(table, row);
-    match reads {
-        Row::Solid(s) => sharing_with(table, solid::box_of(s)),
-        Row::Union(_, _) => 0,
-        Row::Inter(_, _) => 0,
-        Row::Diff(_, _) => 0,
+    let leaf = table::primitive_at(table, row);
+    match leaf {
+        Leaf::Solid(s) => sharing_with(table, solid::box_of(s)),
+        Leaf::None => 0,
     }
 }
