@@ -216,7 +216,7 @@ pub record Promise3 (t : List ℤ) (w : Window) (before after : List ℕ) (r : W
   pub only-then : {n : ℕ} → toldWritten r ≡ fine (wrote n) → Listable t w × (needed t w ≤ length before)
   -- The list is exactly what remains when every way of choosing is written out first and pruned afterwards, word for word, ..
   pub exactly : {n : ℕ} → toldWritten r ≡ fine (wrote n) → take n after ≡ listOf w (length (primitives t)) (prunedAfterwards t w)
-  -- .. so that it has each distinct product once, in order, none besides (`Listed` says so, product by product).
+  -- .. so that it has each distinct product once, in order, none besides (`EachOnce` says so, product by product).
   pub each-once : {n : ℕ} → toldWritten r ≡ fine (wrote n) → EachOnce t w after
   -- Words after it stay.
   pub rest-stays : {n : ℕ} → toldWritten r ≡ fine (wrote n) → (i : ℕ) → n ≤ i → word after i ≡ word before i
