@@ -1,48 +1,41 @@
 -- The words of a list, read back: its length, the number of its products, each of them, and all those of a zone. Assumes nothing.
-use Prim.Native.Nat.{ℕ, zero, suc, _+_, _*_, _<_}
-use native.Mathlib.Nat.{not-suc-le-zero, le-of-suc-le-suc}
+use Prim.Native.Nat.{ℕ, _+_, _*_, _<_}
+use native.Mathlib.Nat.{add-zero, mul-comm}
 use native.Mathlib.Omega.{arith}
-use mathlib.Core.List.{List, [], _∷_, _++_, flatMap}
-use mathlib.Core.Path.{_≡_, refl, ap, _∙_}
+use mathlib.Core.List.{List, _++_, flatMap}
+use mathlib.Core.Path.{_≡_, refl, sym, ap, _∙_}
 use lib.IntN.{ℤ}
-use lib.ListN.{length, getD, length-append}
+use lib.ListN.{length, getD, length-append, List·getD-append}
 use lib.Seq.{getD-append-add}
-use Rattle.ground.proofs.Pieces.{map-places}
+use Rattle.ground.specs.Lists.{All}
+use Rattle.ground.proofs.Pieces.{all-each, pieces-length, piece-at, map-places}
 use Rattle.rules.specs.declared.Product.{Product}
 use Rattle.rules.specs.declared.Window.{Window}
 use Rattle.rules.specs.ListCalls.{zoneList}
-use Rattle.rules.specs.ListWords.{headerOf, wordsOf, listOf, word, productCount, placeOf, productAt, productsIn}
+use Rattle.rules.specs.ListWords.{headerWords, productWords, headerOf, wordsOf, listOf, word, productCount, placeOf, productAt, productsIn}
 use Rattle.rules.specs.Products.{products}
 use Rattle.rules.specs.Table.{primitives}
 use Rattle.rules.specs.Tree.{treeOf}
 use Rattle.laws.specs.Plans.{nothing}
 
-pub words-length : (ps : List Product) → length (flatMap wordsOf ps) ≡ 2 * length ps
-unfolding flatMap
-words-length [] = refl
-words-length (p ∷ ps) = omega (arith, words-length ps)
+all-two : (ps : List Product) → All (λ p. length (wordsOf p) ≡ productWords) ps
+all-two = all-each (λ p. length (wordsOf p) ≡ productWords) (λ p. refl)
 
--- the two words of product k, after the header
-module _ (rest : List ℕ) (d : Product) where
-  plain-at : (ps : List Product) (k : ℕ) → k < length ps → word (flatMap wordsOf ps ++ rest) (2 * k) ≡ getD ps k d .plain
-  unfolding flatMap
-  plain-at [] k l = absurd (not-suc-le-zero l)
-  plain-at (p ∷ ps) zero l = refl
-  plain-at (p ∷ ps) (suc k) l =
-      let two-on : 2 * suc k ≡ suc (suc (2 * k)) = omega arith in
-      ap (word (flatMap wordsOf (p ∷ ps) ++ rest)) two-on ∙ plain-at ps k (le-of-suc-le-suc l)
+pub words-length : (ps : List Product) → length (flatMap wordsOf ps) ≡ productWords * length ps
+words-length ps = pieces-length wordsOf productWords ps (all-two ps) ∙ mul-comm (length ps) productWords
 
-  cuts-at : (ps : List Product) (k : ℕ) → k < length ps → word (flatMap wordsOf ps ++ rest) (2 * k + 1) ≡ getD ps k d .cuts
-  unfolding flatMap
-  cuts-at [] k l = absurd (not-suc-le-zero l)
-  cuts-at (p ∷ ps) zero l = refl
-  cuts-at (p ∷ ps) (suc k) l =
-      let two-on : 2 * suc k + 1 ≡ suc (suc (2 * k + 1)) = omega arith in
-      ap (word (flatMap wordsOf (p ∷ ps) ++ rest)) two-on ∙ cuts-at ps k (le-of-suc-le-suc l)
+-- word i of product k, after the header and whatever stands after the list
+word-at : (rest : List ℕ) (d : Product) (ps : List Product) (k i : ℕ) → k < length ps → i < productWords
+    → word (flatMap wordsOf ps ++ rest) (productWords * k + i) ≡ word (wordsOf (getD ps k d)) i
+word-at rest d ps k i l m =
+    let turned : productWords * k + i ≡ k * productWords + i = omega arith in
+    List·getD-append (flatMap wordsOf ps) rest 0 (productWords * k + i) (omega (arith, words-length ps))
+    ∙ ap (word (flatMap wordsOf ps)) turned
+    ∙ piece-at wordsOf productWords d 0 ps (all-two ps) k i l m
 
 module _ (w : Window) (primitiveCount : ℕ) (ps : List Product) where
   pub list-length : length (listOf w primitiveCount ps) ≡ placeOf (length ps)
-  list-length = length-append (headerOf w primitiveCount (length ps)) (flatMap wordsOf ps) ∙ ap (λ (n : ℕ). 8 + n) (words-length ps)
+  list-length = length-append (headerOf w primitiveCount (length ps)) (flatMap wordsOf ps) ∙ ap (λ (n : ℕ). headerWords + n) (words-length ps)
 
   -- whatever stands after the list
   module _ (rest : List ℕ) where
@@ -50,18 +43,17 @@ module _ (w : Window) (primitiveCount : ℕ) (ps : List Product) where
     list-count = refl
 
     pub list-product : (d : Product) (k : ℕ) → k < length ps → productAt (listOf w primitiveCount ps ++ rest) k ≡ getD ps k d
-    list-product d k l = λ i. record { plain = plain i; cuts = cuts i }
+    list-product d k l = λ i. record { plain = plain i; cuts = (there 1 (omega arith)) i }
       where
-        past : (n : ℕ) → word (listOf w primitiveCount ps ++ rest) (8 + n) ≡ word (flatMap wordsOf ps ++ rest) n
-        past n = getD-append-add (headerOf w primitiveCount (length ps)) (flatMap wordsOf ps ++ rest) n 0
+        there : (i : ℕ) → i < productWords → word (listOf w primitiveCount ps ++ rest) (placeOf k + i) ≡ word (wordsOf (getD ps k d)) i
+        there i m =
+            let after : placeOf k + i ≡ headerWords + (productWords * k + i) = omega arith in
+            ap (word (listOf w primitiveCount ps ++ rest)) after
+            ∙ getD-append-add (headerOf w primitiveCount (length ps)) (flatMap wordsOf ps ++ rest) (productWords * k + i) 0
+            ∙ word-at rest d ps k i l m
 
         plain : word (listOf w primitiveCount ps ++ rest) (placeOf k) ≡ getD ps k d .plain
-        plain = past (2 * k) ∙ plain-at rest d ps k l
-
-        cuts : word (listOf w primitiveCount ps ++ rest) (placeOf k + 1) ≡ getD ps k d .cuts
-        cuts =
-            let after : placeOf k + 1 ≡ 8 + (2 * k + 1) = omega arith in
-            ap (word (listOf w primitiveCount ps ++ rest)) after ∙ past (2 * k + 1) ∙ cuts-at rest d ps k l
+        plain = ap (word (listOf w primitiveCount ps ++ rest)) (sym (add-zero (placeOf k))) ∙ there 0 (omega arith)
 
     list-products : productsIn (listOf w primitiveCount ps ++ rest) ≡ ps
     list-products = map-places (productAt (listOf w primitiveCount ps ++ rest)) nothing ps (list-product nothing)

@@ -11,7 +11,6 @@ use Rattle.ground.proofs.Signed.{read}
 use Rattle.rules.specs.Table.{wordAt}
 use Rattle.rules.specs.Text.{numberText, fieldText}
 use Rattle.laws.proofs.TextLengths.{few-named}
-use Rattle.number.proofs.Writing.{}
 use Rattle.writing.specs.Writing.{fieldsTo}
 use Rattle.writing.proofs.Writes.{longer}
 use Rattle.writing.proofs.Written.{fields-grow, fields-few}

@@ -7,7 +7,6 @@ use Rattle.ground.specs.Lists.{from}
 use Rattle.laws.proofs.Soundness.{table-sound}
 use Rattle.laws.proofs.Texts.{text-short}
 use Rattle.table.proofs.Rows.{row-there}
-use Rattle.number.proofs.Writing.{}
 use Rattle.writing.specs.Writing.{lineAt, linesTo}
 use Rattle.writing.proofs.Writes.{longer, piece-fits}
 use Rattle.writing.proofs.Written.{lines-grow, text-size}
