@@ -56,7 +56,7 @@ fn make_of(
     let seen = reach::seen_in(table, w);
     let mut links: [u8; 508] = [0; 508];
     let mut masks: [u64; 381] = [0; 381];
-    let end = walk::lay(table, bits, seen, &mut links, &mut masks);
+    let end = laying::lay(table, bits, seen, &mut links, &mut masks);
     let needed = measure(list, &links, &masks, end, seen, ways);
     if list.len() < needed {
         return Written::Refused(Refusal {

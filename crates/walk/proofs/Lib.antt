@@ -8,11 +8,3 @@ pub mod Writes
 pub mod Rows
 pub mod Tracks
 pub mod Walked
-pub mod Linked
-pub mod Lines
-pub mod Filling
-pub mod Sizes
-pub mod Leaves
-pub mod Laying
-pub mod Stepped
-pub mod Whole

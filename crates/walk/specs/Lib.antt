@@ -2,4 +2,3 @@ pub mod Walks
 pub mod Rows
 pub mod Tracks
 pub mod Lines
-pub mod Laying

@@ -1,12 +1,9 @@
-// The list of a zone by one walk over its plan. The plan is laid out as rows in the order of the walk; the walk carries what is chosen so far and
-// what that reaches, and goes into no part where nothing can be listed.
-mod fields;
-mod fill;
-mod making;
+// The list of a zone by one walk over the rows of its plan. The walk carries what is chosen so far and what that reaches, and goes into no part
+// where nothing can be listed.
+pub mod fields;
 mod repeats;
 mod steps;
 
-pub use making::lay;
 pub use steps::walk;
 
 // Where a walk stands: the row that it comes to, what is chosen so far, and what is still in reach.

@@ -1,0 +1,39 @@
+-- How many rows each row of the table takes. Assumes nothing.
+use Prim.Native.Nat.{_-_, _≤_}
+use native.Mathlib.Omega.{arith}
+use mathlib.Core.Path.{_≡_, subst}
+use Rattle.rules.specs.Table.{rowCount}
+use Rattle.laying.specs.Laying.{SizedTo}
+use Rattle.laying.proofs.making.size_rows.Statement.{statement}
+use Rattle.laying.proofs.making.size_rows.Tie as tie
+
+abbrev Inv-loop : tie.InvT-loop
+Inv-loop sizes₀ table bits rows row₀ sizes row = (row ≤ rows) × SizedTo table sizes row
+
+abbrev μ-loop : tie.MeasureT-loop
+μ-loop sizes₀ table bits rows row₀ sizes row = rows - row
+
+loop-holds : tie.Need-loop-holds Inv-loop μ-loop
+loop-holds c = (omega arith, record { long = c .pre .1; each = λ row l within. absurd (omega arith) })
+
+size-row-requires : tie.Need-size-row-requires Inv-loop μ-loop
+size-row-requires c κs = ((c .before .before .before .pre .0, c .before .loop-test .taken), c .before .before .loop .inv .1)
+
+add-row : tie.Need-add-row Inv-loop μ-loop
+add-row c = omega arith
+
+loop-less : tie.Need-loop-less Inv-loop μ-loop
+loop-less c = omega arith
+
+loop-again : tie.Need-loop-again Inv-loop μ-loop
+loop-again c = (omega (arith, c .before .before .loop-test .taken), c .size-row .ensures)
+
+returns : tie.Need-returns Inv-loop μ-loop
+returns c =
+    let done : c .before .loop .row ≡ rowCount (c .before .before .args .table .now) = omega (arith, c .before .loop .inv .0, c .loop-test .left) in
+    subst (SizedTo (c .before .before .args .table .now) (c .before .loop .sizes)) done (c .before .loop .inv .1)
+
+pub size-rows-spec : {M : Type 1} → statement M
+size-rows-spec =
+    tie.close
+    (tie.spec Inv-loop μ-loop loop-holds size-row-requires add-row loop-less loop-again returns)
