@@ -48,7 +48,7 @@ fn holders(table: &[i32], p: Point) -> u64
     requires { ⌜ holds everywhere p ≡ true ⌝ }
     ensures { λ r. ⌜ r ≡ held (primitives (now (table .entry))) p ⌝ }
 {
-    let rows = table.len() / rules::ROW_WORDS;
+    let rows = table::row_count(table);
     let mut g = Gathered { set: 0, count: 0 };
     let mut row: usize = 0;
     while row < rows {

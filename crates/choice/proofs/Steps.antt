@@ -7,7 +7,7 @@ use native.Mathlib.Omega.{arith}
 use mathlib.Core.Bool.{Bool, true, false}
 use mathlib.Core.List.{List, [], cons≢nil}
 use mathlib.Core.Logic.{_⊎_, inl, inr, ⊎-elim}
-use mathlib.Core.Option.{Option, some}
+use mathlib.Core.Option.{some}
 use mathlib.Core.Path.{_≡_, refl, sym, ap, ap₂, subst, _∙_}
 use lib.IntN.{ℤ}
 use lib.ListN.{length, getD, set, replicate, length-set, length-replicate}
@@ -151,21 +151,21 @@ as-step t row p h g = subst (IsStep t row p) g h
 
 -- ---- bits, row by row
 
--- how many primitives there are up to a row that was read
-pub number-next : {t : List ℤ} (S : Sound t) (row : ℕ) {x r : Row} → some x ≡ rowAt t row → x ≡ r → length (primitivesBefore t row) + length (solidOf (some r)) ≡ length (primitivesBefore t (row + 1))
-number-next {t} S row e g =
-    sym (ap (λ (q : ℕ). length (primitivesBefore t q)) (add-one row) ∙ next-before t S row ∙ ap (λ (q : Option Row). length (primitivesBefore t row) + length (solidOf q)) (sym e ∙ ap some g))
+-- how many primitives there are up to a row that has been looked at
+pub number-next : {t : List ℤ} (S : Sound t) (row : ℕ) {met : List Primitive} → solidOf (rowAt t row) ≡ met → length (primitivesBefore t row) + length met ≡ length (primitivesBefore t (row + 1))
+number-next {t} S row e =
+    sym (ap (λ (q : ℕ). length (primitivesBefore t q)) (add-one row) ∙ next-before t S row ∙ ap (λ (met : List Primitive). length (primitivesBefore t row) + length met) e)
 
 module _ {t : List ℤ} {bits : List ℕ} {row : ℕ} (N : NumberedTo t bits row) where
   last-or-before : (q : ℕ) → q < row + 1 → (q ≡ row) ⊎ (q < row)
   last-or-before q h = eq-or-lt-of-le (omega arith)
 
   -- a row that is no primitive has no bit
-  pub numbered-on : {x r : Row} → some x ≡ rowAt t row → x ≡ r → solidOf (some r) ≡ [] → NumberedTo t bits (row + 1)
-  numbered-on e g other = record {
+  pub numbered-on : solidOf (rowAt t row) ≡ [] → NumberedTo t bits (row + 1)
+  numbered-on none = record {
     size = N .size;
     bit = λ q h s k. ⊎-elim
-        (λ same. absurd (cons≢nil (sym (ap solidOf (ap some (sym g) ∙ e ∙ ap (rowAt t) (sym same) ∙ k)) ∙ other)))
+        (λ same. absurd (cons≢nil (sym (ap solidOf (ap (rowAt t) (sym same) ∙ k)) ∙ none)))
         (λ l. N .bit q l s k) (last-or-before q h);
   }
 

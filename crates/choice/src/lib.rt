@@ -1,6 +1,7 @@
 // The ways of choosing in a row's tree, by recursion on the row: how many there are, and the k-th of them.
 use rules::Product;
 use rules::Row;
+use table::Leaf;
 ghost use Prim.Native.Nat.{_+_, _<_};
 ghost use mathlib.Core.Path.{_≡_};
 ghost use lib.ListN.{length};
@@ -60,15 +61,13 @@ fn number_row(bits: &mut [u64; 127], table: &[i32], row: usize, n: usize) -> usi
     requires { ⌜ (n ≡ length (primitivesBefore (now table) row)) × NumberedTo (now table) (now bits) row ⌝ }
     ensures { λ r. ⌜ (r ≡ length (primitivesBefore (now (table .entry)) (row + 1))) × NumberedTo (now (table .entry)) (now (bits .exit)) (row + 1) ⌝ }
 {
-    let reads = table::read_row(table, row);
-    match reads {
-        Row::Solid(_) => {
+    let leaf = table::primitive_at(table, row);
+    match leaf {
+        Leaf::Solid(_) => {
             bits[row] = 1u64 << n;
             n + 1
         }
-        Row::Union(_, _) => n,
-        Row::Inter(_, _) => n,
-        Row::Diff(_, _) => n,
+        Leaf::None => n,
     }
 }
 
@@ -78,7 +77,7 @@ pub fn number_rows(bits: &mut [u64; 127], table: &[i32]) -> usize
     requires { ⌜ length (now bits) ≡ 127 ⌝ }
     ensures { λ r. ⌜ (r ≡ length (primitives (now (table .entry)))) × Numbered (now (table .entry)) (now (bits .exit)) ⌝ }
 {
-    let rows = table.len() / rules::ROW_WORDS;
+    let rows = table::row_count(table);
     let mut n: usize = 0;
     let mut row: usize = 0;
     while row < rows {

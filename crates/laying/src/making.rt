@@ -73,7 +73,7 @@ fn size_rows(sizes: &mut [u8; 127], table: &[i32], bits: &[u64; 127])
     requires { ⌜ Given (now table) (now bits) × (length (now sizes) ≡ 127) ⌝ }
     ensures { λ _. ⌜ SizedTo (now (table .entry)) (now (sizes .exit)) (rowCount (now (table .entry))) ⌝ }
 {
-    let rows = table.len() / rules::ROW_WORDS;
+    let rows = table::row_count(table);
     let mut row: usize = 0;
     while row < rows {
         size_row(sizes, table, bits, row);
@@ -211,7 +211,7 @@ pub fn lay(
 {
     let mut sizes: [u8; 127] = [0; 127];
     size_rows(&mut sizes, table, bits);
-    let root = table.len() / rules::ROW_WORDS - 1;
+    let root = table::root(table);
     let rows = sizes[root];
     put_links(links, 0, 1, narrow(root), rows, 0);
     let end = fields::wide(rows);

@@ -75,7 +75,7 @@ fn ways_of(table: &[i32], bits: &[u64; 127]) -> u64
     ensures { λ r. ⌜ r ≡ count (rootPlan (now (table .entry))) ⌝ }
 {
     let mut counts: [u64; 254] = [0; 254];
-    let root = table.len() / rules::ROW_WORDS - 1;
+    let root = table::root(table);
     choice::count_ways(table, bits, &mut counts, root, true)
 }
 

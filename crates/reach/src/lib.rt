@@ -69,7 +69,7 @@ pub fn sharing_with(table: &[i32], b: BoxShape) -> u64
     requires { ⌜ Sound (now table) ⌝ }
     ensures { λ r. ⌜ r ≡ sharing (primitives (now (table .entry))) (bounds b) ⌝ }
 {
-    let rows = table.len() / rules::ROW_WORDS;
+    let rows = table::row_count(table);
     let mut g = Gathered { set: 0, count: 0 };
     let mut row: usize = 0;
     while row < rows {

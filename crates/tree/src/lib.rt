@@ -43,7 +43,7 @@ fn zone_inside(table: &[i32], p: Point) -> bool
     requires { ⌜ holds everywhere p ≡ true ⌝ }
     ensures { λ r. ⌜ r ≡ inside (treeOf (now (table .entry))) p ⌝ }
 {
-    row_inside(table, table.len() / rules::ROW_WORDS - 1, p)
+    row_inside(table, table::root(table), p)
 }
 
 // The table is sound: the range, then the tree.

@@ -2,24 +2,28 @@
 use Prim.Native.Nat.{ℕ, _+_, _<_}
 use native.Mathlib.Nat.{add-zero}
 use native.Mathlib.Omega.{arith}
-use mathlib.Core.Option.{some}
-use mathlib.Core.Path.{refl, sym, ap, subst, _∙_}
+use mathlib.Core.Path.{sym, ap, subst, _∙_}
 use borrow.Author.Needs.{needs}
 use Rattle.ground.proofs.Masks.{one-shifted}
+use Rattle.rules.specs.Table.{solidOf}
 use Rattle.laws.proofs.Expansion.{number-fits}
-use Rattle.table.proofs.Rows.{row-there}
+use Rattle.table.specs.declared.Leaf.the-variants as leaf
+use Rattle.table.specs.Leaves.{LeafAt}
 use Rattle.choice.proofs.Steps.{number-next, numbered-on, numbered-more}
 use Rattle.choice.proofs.number_row.Statement.{statement}
 use Rattle.choice.proofs.number_row.Tie as tie
 
+-- the primitive that was met
+met : (c : tie.After-enum-told) → LeafAt (c .before .before .before .args .table .now) (c .before .before .before .args .row) (leaf.Solid (c .enum-told .given .0 .0))
+met c = let d = c .before .before in subst (LeafAt (d .before .args .table .now) (d .before .args .row)) (c .enum-told .given .1) (d .primitive-at .ensures)
+
 few : (c : tie.After-enum-told) → c .before .before .before .args .n < 64
 few c =
     let s = c .before .before .before in
-    subst (λ (n : ℕ). n < 64) (sym (s .pre .1 .1 .0))
-    (number-fits (s .args .table .now) (s .pre .0) (s .args .row) (s .pre .1 .0) (sym (c .before .before .read-row .ensures) ∙ ap some (c .enum-told .given .1)))
+    subst (λ (n : ℕ). n < 64) (sym (s .pre .1 .1 .0)) (number-fits (s .args .table .now) (s .pre .0) (s .args .row) (s .pre .1 .0) (met c .0))
 
-read-row-requires : tie.Need-read-row-requires
-read-row-requires c κs = row-there (c .pre .0) (c .pre .1 .0)
+primitive-at-requires : tie.Need-primitive-at-requires
+primitive-at-requires c κs = (c .pre .0, c .pre .1 .0)
 
 enum-told : tie.Need-enum-told
 enum-told c = search needs
@@ -39,46 +43,30 @@ add-result c = record { fits = omega (arith, few c) }
 enum-told-2 : tie.Need-enum-told-2
 enum-told-2 c = search needs
 
-enum-told-3 : tie.Need-enum-told-3
-enum-told-3 c = search needs
-
-enum-told-4 : tie.Need-enum-told-4
-enum-told-4 c = search needs
-
 returns : tie.Need-returns
 returns c =
-    let s = c .before .before .before in
-    (ap (λ (n : ℕ). n + 1) (s .pre .1 .1 .0) ∙ number-next (s .pre .0) (s .args .row) (c .before .before .read-row .ensures) (c .enum-told .given .1), numbered-more (s .pre .1 .1 .1) (omega (arith, s .pre .0 .not-over, s .pre .1 .0)) (s .pre .1 .1 .0) (one-shifted (s .args .n) (few c)))
+    let s = c .before .before .before in (
+      ap (λ (n : ℕ). n + 1) (s .pre .1 .1 .0) ∙ number-next (s .pre .0) (s .args .row) (ap solidOf (met c .0)),
+      numbered-more (s .pre .1 .1 .1) (omega (arith, s .pre .0 .not-over, s .pre .1 .0)) (s .pre .1 .1 .0) (one-shifted (s .args .n) (few c)),
+    )
 
 returns-2 : tie.Need-returns-2
 returns-2 c =
-    let s = c .before .before .before in
-    (s .pre .1 .1 .0 ∙ sym (add-zero _) ∙ number-next (s .pre .0) (s .args .row) (c .before .before .read-row .ensures) (c .enum-told2 .given .1), numbered-on (s .pre .1 .1 .1) (c .before .before .read-row .ensures) (c .enum-told2 .given .1) refl)
-
-returns-3 : tie.Need-returns-3
-returns-3 c =
-    let s = c .before .before .before in
-    (s .pre .1 .1 .0 ∙ sym (add-zero _) ∙ number-next (s .pre .0) (s .args .row) (c .before .before .read-row .ensures) (c .enum-told3 .given .1), numbered-on (s .pre .1 .1 .1) (c .before .before .read-row .ensures) (c .enum-told3 .given .1) refl)
-
-returns-4 : tie.Need-returns-4
-returns-4 c =
-    let s = c .before .before .before in
-    (s .pre .1 .1 .0 ∙ sym (add-zero _) ∙ number-next (s .pre .0) (s .args .row) (c .before .before .read-row .ensures) (c .enum-told4 .given .1), numbered-on (s .pre .1 .1 .1) (c .before .before .read-row .ensures) (c .enum-told4 .given .1) refl)
+    let d = c .before .before in
+    let s = d .before in
+    let none = subst (LeafAt (s .args .table .now) (s .args .row)) (c .enum-told2 .given .1) (d .primitive-at .ensures) in
+    (s .pre .1 .1 .0 ∙ sym (add-zero _) ∙ number-next (s .pre .0) (s .args .row) none, numbered-on (s .pre .1 .1 .1) none)
 
 pub number-row-spec : {M : Type 1} → statement M
 number-row-spec =
     tie.close
     (tie.spec
-    read-row-requires
+    primitive-at-requires
     enum-told
     shl-bits
     mul-bits
     element-write-bits
     add-result
     enum-told-2
-    enum-told-3
-    enum-told-4
     returns
-    returns-2
-    returns-3
-    returns-4)
+    returns-2)
