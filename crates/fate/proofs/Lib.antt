@@ -1,0 +1,4 @@
+pub mod Ends
+pub mod Cuts
+pub mod Fates
+pub mod Rooted
