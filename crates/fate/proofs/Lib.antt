@@ -2,3 +2,4 @@ pub mod Ends
 pub mod Cuts
 pub mod Fates
 pub mod Rooted
+pub mod FirstWays

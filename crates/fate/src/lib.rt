@@ -1,4 +1,6 @@
 // What becomes of a way of choosing in a window: its product's box, the axis on which that is empty, or the product after its cuts.
+pub mod told;
+
 use rules::Axis;
 use rules::BoxShape;
 use rules::Product;

@@ -3,11 +3,8 @@ use borrow.Author.Needs.{needs}
 use lib.Seq.{length-take-le}
 use Rattle.rules.specs.TextCalls.{TextRead}
 use Rattle.laws.proofs.Texts.{read-fits, read-sound}
-use Rattle.explain.proofs.explain.Statement.{statement}
-use Rattle.explain.proofs.explain.Tie as tie
-
-say-requires : tie.Need-say-requires
-say-requires c κs = search needs
+use Rattle.telling.proofs.tell_zone.Statement.{statement}
+use Rattle.telling.proofs.tell_zone.Tie as tie
 
 slice-aggregate-read-text : tie.Need-slice-aggregate-read-text
 slice-aggregate-read-text c = search needs
@@ -18,8 +15,8 @@ read-text-requires c κs = search needs
 enum-known-read : tie.Need-enum-known-read
 enum-known-read c = search needs
 
-tell-refused-requires : tie.Need-tell-refused-requires
-tell-refused-requires c κs = search needs
+say-refused-requires : tie.Need-say-refused-requires
+say-refused-requires c κs = search needs
 
 enum-known-read-2 : tie.Need-enum-known-read-2
 enum-known-read-2 c = search needs
@@ -39,15 +36,14 @@ returns c = search needs
 returns-2 : tie.Need-returns-2
 returns-2 c = search needs
 
-pub explain-spec : {M : Type 1} → statement M
-explain-spec =
+pub tell-zone-spec : {M : Type 1} → statement M
+tell-zone-spec =
     tie.close
     (tie.spec
-    say-requires
     slice-aggregate-read-text
     read-text-requires
     enum-known-read
-    tell-refused-requires
+    say-refused-requires
     enum-known-read-2
     array-share-prefix-table
     slice-aggregate-tell-table
