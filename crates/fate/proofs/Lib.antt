@@ -1,0 +1,5 @@
+pub mod Ends
+pub mod Cuts
+pub mod Fates
+pub mod Rooted
+pub mod FirstWays
