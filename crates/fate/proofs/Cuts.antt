@@ -2,7 +2,7 @@
 use Prim.Native.Nat.{ℕ, _+_, _/_, _^_}
 use native.Mathlib.Decide.{ℕ-discrete}
 use mathlib.Core.Bool.{Bool, true, false, _&&_}
-use mathlib.Core.List.{List, [], _∷_, _++_, foldr}
+use mathlib.Core.List.{List, [], _∷_, _++_, foldr, append-nil}
 use mathlib.Core.Option.{some}
 use mathlib.Core.Path.{_≡_, refl, sym, ap, _∙_}
 use borrow.Author.Tests.{eq-eqb, ne-eqb}
@@ -14,12 +14,11 @@ use Rattle.ground.specs.Tests.{if_then_else_}
 use Rattle.ground.proofs.Masks.{has, has-and, has-one, has-none, same-places}
 use Rattle.rules.specs.declared.Primitive.{Primitive}
 use Rattle.rules.specs.declared.Product.{Product}
-use Rattle.rules.specs.declared.Row.{Row}
 use Rattle.rules.specs.declared.Row.the-variants.{Solid}
 use Rattle.rules.specs.Boxes.{Box, commonBox}
 use Rattle.rules.specs.Products.{boxOf}
 use Rattle.rules.specs.Table.{rowAt, solidOf, primitivesBefore}
-use Rattle.reach.proofs.Gathering.{row-more, none-more}
+use Rattle.reach.proofs.Gathering.{next-solids}
 use Rattle.fate.specs.Fates.{cutBy}
 
 -- ---- the last of a list
@@ -66,12 +65,12 @@ module _ (i set : ℕ) where
 
 -- ---- one row
 
--- a row that was read as r: what the rows before it make of a box that it has cut is what they and it make of the box
-module _ (t : List ℤ) (row : ℕ) {x r : Row} (e : some x ≡ rowAt t row) (g : x ≡ r) (c : Product) (b : Box) where
-  pub passes : solidOf (some r) ≡ [] → cutBy c (primitivesBefore t row) b ≡ cutBy c (primitivesBefore t (row + 1)) b
-  passes h = ap (λ (ps : List Primitive). cutBy c ps b) (none-more t row e g h)
+-- what the rows before a row make of a box that it has cut is what they and it make of the box
+module _ (t : List ℤ) (row : ℕ) (c : Product) (b : Box) where
+  pub passes : solidOf (rowAt t row) ≡ [] → cutBy c (primitivesBefore t row) b ≡ cutBy c (primitivesBefore t (row + 1)) b
+  passes none = ap (λ (ps : List Primitive). cutBy c ps b) (sym (append-nil (primitivesBefore t row)) ∙ next-solids t row none)
 
-  module _ {s : Primitive} (h : r ≡ Solid s) {bit : ℕ} (is : bit ≡ 2 ^ length (primitivesBefore t row)) where
+  module _ {s : Primitive} (e : rowAt t row ≡ some (Solid s)) {bit : ℕ} (is : bit ≡ 2 ^ length (primitivesBefore t row)) where
     abbrev before : List Primitive
     before = primitivesBefore t row
 
@@ -80,7 +79,7 @@ module _ (t : List ℤ) (row : ℕ) {x r : Row} (e : some x ≡ rowAt t row) (g 
         sym (ap (λ (ps : List Primitive). foldr cut b ps) (selected-last (c .plain) before s)
         ∙ folded cut b (selected (c .plain) before) (if has (length before) (c .plain) then s ∷ [] else [])
         ∙ ap (λ (z : Box). foldr cut z (selected (c .plain) before)) (go (has (length before) (c .plain))))
-        ∙ ap (λ (ps : List Primitive). cutBy c ps b) (ap (λ (y : Row). before ++ solidOf (some y)) (sym h) ∙ row-more t row e g)
+        ∙ ap (λ (ps : List Primitive). cutBy c ps b) (next-solids t row (ap solidOf e))
       where
         cut : Primitive → Box → Box
         cut p rest = commonBox (boxOf p) rest

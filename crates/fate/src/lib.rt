@@ -4,8 +4,8 @@ pub mod told;
 use rules::Axis;
 use rules::BoxShape;
 use rules::Product;
-use rules::Row;
 use rules::Window;
+use table::Leaf;
 ghost use Prim.Native.Nat.{_+_, _<_};
 ghost use mathlib.Core.Path.{_≡_};
 ghost use lib.ListN.{getD};
@@ -61,17 +61,15 @@ fn cut_by_row(table: &[i32], bits: &[u64; 127], row: usize, c: Product, b: BoxSh
     requires { ⌜ Numbered (now table) (now bits) ⌝ }
     ensures { λ r. ⌜ cutBy c (primitivesBefore (now (table .entry)) row) (bounds r) ≡ cutBy c (primitivesBefore (now (table .entry)) (row + 1)) (bounds b) ⌝ }
 {
-    let reads = table::read_row(table, row);
-    match reads {
-        Row::Solid(s) => {
+    let leaf = table::primitive_at(table, row);
+    match leaf {
+        Leaf::Solid(s) => {
             if bits[row] & c.plain == 0 {
                 return b;
             }
             cut_box(solid::box_of(s), b)
         }
-        Row::Union(_, _) => b,
-        Row::Inter(_, _) => b,
-        Row::Diff(_, _) => b,
+        Leaf::None => b,
     }
 }
 

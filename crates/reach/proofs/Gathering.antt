@@ -40,7 +40,7 @@ module _ (solids : List Primitive) (s : Primitive) where
 -- ---- one row more
 
 module _ (t : List ℤ) (row : ℕ) where
-  next-solids : {solids : List Primitive} → solidOf (rowAt t row) ≡ solids → primitivesBefore t row ++ solids ≡ primitivesBefore t (row + 1)
+  pub next-solids : {solids : List Primitive} → solidOf (rowAt t row) ≡ solids → primitivesBefore t row ++ solids ≡ primitivesBefore t (row + 1)
   next-solids e = ap (λ (ps : List Primitive). primitivesBefore t row ++ ps) (sym e) ∙ sym (flatMap-next (λ k. solidOf (rowAt t k)) row)
 
   module _ (test : Primitive → Bool) (found : Gathered) (G : Gathers (primitivesBefore t row) test found) where
