@@ -1,10 +1,15 @@
+use Prim.Native.Nat.{_+_}
+use mathlib.Core.List.{[]}
 use mathlib.Core.Option.{some}
-use mathlib.Core.Path.{refl, sym, ap, _∙_}
+use mathlib.Core.Path.{_≡_, refl, sym, ap, _∙_}
 use borrow.Author.Needs.{needs}
 use Rattle.rules.specs.Boxes.{Box, commonBox}
+use Rattle.rules.specs.declared.Row.{Row}
 use Rattle.rules.specs.Inside.{bounds}
+use Rattle.rules.specs.Table.{solidOf, primitivesBefore}
 use Rattle.laws.proofs.Trees.{read-right}
 use Rattle.table.proofs.Rows.{row-there}
+use Rattle.fate.specs.Fates.{cutBy}
 use Rattle.fate.proofs.Cuts.{passes, not-chosen, chosen}
 use Rattle.fate.proofs.cut_by_row.Statement.{statement}
 use Rattle.fate.proofs.cut_by_row.Tie as tie
@@ -58,23 +63,19 @@ returns-2 c =
     let cut = c .cut-box .ensures ∙ ap (λ (a : Box). commonBox a (bounds (s .args .b))) (c .before .box-of .ensures) in
     chosen (s .args .table .now) (s .args .row) (d .read-row .ensures) (k .reads .given .1) (s .args .c) (bounds (s .args .b)) refl bit (i .if1 .left) cut
 
+-- an operation's row cuts nothing
+module _ (d : tie.After-read-row) {r : Row} (g : d .read-row .result ≡ r) (h : solidOf (some r) ≡ []) where
+  uncut : let s = d .before .args in cutBy (s .c) (primitivesBefore (s .table .now) (s .row)) (bounds (s .b)) ≡ cutBy (s .c) (primitivesBefore (s .table .now) (s .row + 1)) (bounds (s .b))
+  uncut = let s = d .before .args in passes (s .table .now) (s .row) (d .read-row .ensures) g (s .c) (bounds (s .b)) h
+
 returns-3 : tie.Need-returns-3
-returns-3 c =
-    let d = c .before .before in
-    let s = d .before in
-    passes (s .args .table .now) (s .args .row) (d .read-row .ensures) (c .enum-told .given .1) (s .args .c) (bounds (s .args .b)) refl
+returns-3 c = uncut (c .before .before) (c .enum-told .given .1) refl
 
 returns-4 : tie.Need-returns-4
-returns-4 c =
-    let d = c .before .before in
-    let s = d .before in
-    passes (s .args .table .now) (s .args .row) (d .read-row .ensures) (c .enum-told2 .given .1) (s .args .c) (bounds (s .args .b)) refl
+returns-4 c = uncut (c .before .before) (c .enum-told2 .given .1) refl
 
 returns-5 : tie.Need-returns-5
-returns-5 c =
-    let d = c .before .before in
-    let s = d .before in
-    passes (s .args .table .now) (s .args .row) (d .read-row .ensures) (c .enum-told3 .given .1) (s .args .c) (bounds (s .args .b)) refl
+returns-5 c = uncut (c .before .before) (c .enum-told3 .given .1) refl
 
 pub cut-by-row-spec : {M : Type 1} → statement M
 cut-by-row-spec =
