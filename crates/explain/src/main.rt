@@ -1,12 +1,21 @@
-// The teaching program over zones of its own: those of the lessons, and some at the bounds of what is told. `explaining` tells a zone that it reads.
-mod limits;
-
+// The teaching program over the zones of its data/: those of the lessons, some at the bounds of what is told, and some that are refused. `explaining`
+// tells a zone that it reads.
 use rules::Window;
 
-// Says a title and tells the ways of a zone in a window.
-fn explain(title: &[u8], text: &[u8], w: Window) {
+// Says a title and a zone's text.
+fn show(title: &[u8], name: &[u8]) {
+    let mut text = io::buffer();
+    let size = lines::read_file(name, &mut text);
     telling::say(title);
-    telling::tell_zone(text, w);
+    telling::say(&text[..size]);
+}
+
+// Says a title and tells the ways of a zone in a window.
+fn explain(title: &[u8], name: &[u8], w: Window) {
+    let mut text = io::buffer();
+    let size = lines::read_file(name, &mut text);
+    telling::say(title);
+    telling::tell_zone(&text[..size], w);
 }
 
 // Some columns, and all codes and frames.
@@ -21,47 +30,75 @@ fn columns(xlo: i32, xhi: i32) -> Window {
     }
 }
 
-fn cases_1_to_3() {
-    let q = b"zone\t7\nbox\t0\t9\t0\t0\t0\t0\nbox\t9\t12\t0\t0\t0\t0\ndiff\t0\t1\n\
-              box\t20\t29\t0\t0\t0\t0\nunion\t2\t3\nbox\t8\t25\t0\t0\t0\t0\ninter\t4\t5\n";
-    telling::say(b"Zone Q:\n");
-    telling::say(q);
-    explain(b"Case 1, columns -100 to 100:\n", q, columns(-100, 100));
-    explain(b"Case 2, columns 0 to 15:\n", q, columns(0, 15));
-    explain(b"Case 3, columns 0 to 7:\n", q, columns(0, 7));
+// Those of the lessons.
+fn cases() {
+    show(b"Zone Q:\n", b"q.zone");
+    explain(
+        b"Case 1, columns -100 to 100:\n",
+        b"q.zone",
+        columns(-100, 100),
+    );
+    explain(b"Case 2, columns 0 to 15:\n", b"q.zone", columns(0, 15));
+    explain(b"Case 3, columns 0 to 7:\n", b"q.zone", columns(0, 7));
+    show(b"\nZone Q with B from column 10 on:\n", b"q-apart.zone");
+    explain(
+        b"Case 4, columns -100 to 100:\n",
+        b"q-apart.zone",
+        columns(-100, 100),
+    );
+    show(b"\nA less the part that B and C share:\n", b"shared.zone");
+    explain(
+        b"Case 6, full range:\n",
+        b"shared.zone",
+        window::everywhere(),
+    );
+    show(
+        b"\nA less B and C, where it meets D, E or F:\n",
+        b"axes.zone",
+    );
+    explain(
+        b"The other axes, full range:\n",
+        b"axes.zone",
+        window::everywhere(),
+    );
 }
 
-fn case_4() {
-    let text = b"zone\t7\nbox\t0\t9\t0\t0\t0\t0\nbox\t10\t12\t0\t0\t0\t0\ndiff\t0\t1\n\
-                 box\t20\t29\t0\t0\t0\t0\nunion\t2\t3\nbox\t8\t25\t0\t0\t0\t0\ninter\t4\t5\n";
-    telling::say(b"\nZone Q with B from column 10 on:\n");
-    telling::say(text);
-    explain(b"Case 4, columns -100 to 100:\n", text, columns(-100, 100));
+// The letters A to Z, and one primitive past them.
+fn names() {
+    show(
+        b"\nAll letters: in one of A to H and in one of I to P, out of Q to Z:\n",
+        b"letters.zone",
+    );
+    explain(
+        b"51 rows, full range:\n",
+        b"letters.zone",
+        window::everywhere(),
+    );
+    explain(b"\n53 rows:\n", b"past-z.zone", window::everywhere());
 }
 
-fn case_6() {
-    let text = b"zone\t5\nbox\t0\t9\t0\t0\t0\t0\nbox\t20\t29\t0\t0\t0\t0\nbox\t40\t49\t0\t0\t0\t0\n\
-                 inter\t1\t2\ndiff\t0\t3\n";
-    telling::say(b"\nA less the part that B and C share:\n");
-    telling::say(text);
-    explain(b"Case 6, full range:\n", text, window::everywhere());
-}
-
-fn other_axes() {
-    let text = b"zone\t11\nbox\t0\t9\t0\t9\t0\t0\nbox\t5\t6\t5\t6\t0\t0\nbox\t20\t29\t0\t9\t0\t0\n\
-                 union\t1\t2\ndiff\t0\t3\nbox\t0\t9\t20\t29\t-5\t-3\nbox\t0\t9\t0\t9\t-5\t-3\n\
-                 union\t5\t6\nbox\t4\t12\t4\t12\t-2\t2\nunion\t7\t8\ninter\t4\t9\n";
-    telling::say(b"\nA less B and C, where it meets D, E or F:\n");
-    telling::say(text);
-    explain(b"The other axes, full range:\n", text, window::everywhere());
+// Each refusal that there is: of the text, of the table, of the window, and of the ways.
+fn refusals() {
+    explain(
+        b"\nA space for a tab:\n",
+        b"space.zone",
+        window::everywhere(),
+    );
+    explain(
+        b"\nA box that ends before it begins:\n",
+        b"backward.zone",
+        window::everywhere(),
+    );
+    explain(
+        b"\nA window that ends before it begins:\n",
+        b"column.zone",
+        columns(9, 0),
+    );
+    explain(b"\n131,072 ways:\n", b"ways.zone", window::everywhere());
 }
 
 fn main() {
-    cases_1_to_3();
-    case_4();
-    case_6();
-    other_axes();
-    limits::most_letters();
-    limits::past_z();
-    limits::refusals();
+    cases();
+    names();
+    refusals();
 }

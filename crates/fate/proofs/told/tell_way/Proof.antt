@@ -1,7 +1,7 @@
-use Prim.Native.Nat.{_<_}
+use native.Mathlib.Omega.{arith}
+use mathlib.Core.Bool.{true}
 use mathlib.Core.Path.{_≡_, sym, ap, _∙_}
 use borrow.Author.Needs.{needs}
-use native.Mathlib.Omega.{arith}
 use Rattle.rules.specs.declared.Product.{Product}
 use Rattle.rules.specs.Table.{primitives}
 use Rattle.promises.specs.EachOnce.{choice, kept, made}
@@ -42,17 +42,29 @@ module _ (d : tie.After-fate-in) where
       let s = d .before .before .before .before .args in
       sym (ap (fateIn (s .w) (primitives (s .table .now))) (d .before .way .ensures .0)) ∙ sym (d .fate-in .ensures) ∙ e
 
+-- way k comes to a product, and its number was looked for
+module _ (m : tie.After-number-in) where
+  abbrev start : tie.Start
+  start = m .before .before .before .before .before .before .before .before
+
+  abbrev product : Product
+  product = m .before .before .fate2 .given .0 .0
+
+  is : fateIn (start .args .w) (primitives (start .args .table .now)) (choice (start .args .table .now) (start .args .k)) ≡ Kept product
+  is = found (m .before .before .before .before) (m .before .before .fate2 .given .1)
+
+  comes : (kept (start .args .table .now) (start .args .w) (start .args .k) ≡ true) × (made (start .args .table .now) (start .args .w) (start .args .k) ≡ product)
+  comes = kept-stays (start .args .w) (primitives (start .args .table .now)) (choice (start .args .table .now) (start .args .k)) is
+
 returns : tie.Need-returns
 returns c =
     let m = c .before .before in
-    let f = m .before .before in
-    let d = f .before .before in
-    let s = d .before .before .before .before in
-    let is = found d (f .fate2 .given .1) in
-    let stays = kept-stays (s .args .w) (primitives (s .args .table .now)) (choice (s .args .table .now) (s .args .k)) is in
-    let T = s .pre .1 .1 .1 .1 in
-    let h = s .pre .1 .1 .1 .0 in
-    (d .before .way .ensures .1, ((d .before .way .ensures .0, (is, again-first T h (stays .0) (stays .1) (m .number-in .ensures) (c .before .if1 .taken))), told-again T h (stays .0) (stays .1) (m .number-in .ensures) (c .before .if1 .taken)))
+    let way = m .before .before .before .before .before .way .ensures in
+    let T = start m .pre .1 .1 .1 .1 in
+    let h = start m .pre .1 .1 .1 .0 in
+    let N = m .number-in .ensures in
+    let told = c .before .if1 .taken in
+    (way .1, ((way .0, (is m, again-first T h (comes m .0) (comes m .1) N told)), told-again T h (comes m .0) (comes m .1) N told))
 
 mul-firsts : tie.Need-mul-firsts
 mul-firsts c = search needs
@@ -60,37 +72,28 @@ mul-firsts c = search needs
 element-write-firsts : tie.Need-element-write-firsts
 element-write-firsts c =
     let m = c .before in
-    let f = m .before .before in
-    let d = f .before .before in
-    let s = d .before .before .before .before in
-    let is = found d (f .fate2 .given .1) in
-    let stays = kept-stays (s .args .w) (primitives (s .args .table .now)) (choice (s .args .table .now) (s .args .k)) is in
-    let T = s .pre .1 .1 .1 .1 in
-    omega (arith, in-firsts T (s .pre .1 .1 .1 .0) (stays .0) (stays .1) (m .number-in .ensures) (omega arith), T .size)
+    let T = start m .pre .1 .1 .1 .1 in
+    omega (arith, in-firsts T (start m .pre .1 .1 .1 .0) (comes m .0) (comes m .1) (m .number-in .ensures) (omega arith), T .size)
 
 add-t23 : tie.Need-add-t23
 add-t23 c = search needs
 
 returns-2 : tie.Need-returns-2
 returns-2 c =
-    let f = c .before in
-    let d = f .before .before in
+    let d = c .before .before .before in
     let s = d .before .before .before .before in
-    let is = found d (f .fate .given .1) in
-    let gone = dropped-gone (s .args .w) (primitives (s .args .table .now)) (choice (s .args .table .now) (s .args .k)) is in
-    (d .before .way .ensures .1, ((d .before .way .ensures .0, is), told-dropped (s .pre .1 .1 .1 .1) gone))
+    let gone = found d (c .before .fate .given .1) in
+    let dropped = dropped-gone (s .args .w) (primitives (s .args .table .now)) (choice (s .args .table .now) (s .args .k)) gone in
+    (d .before .way .ensures .1, ((d .before .way .ensures .0, gone), told-dropped (s .pre .1 .1 .1 .1) dropped))
 
 returns-3 : tie.Need-returns-3
 returns-3 c =
     let m = c .before in
-    let f = m .before .before in
-    let d = f .before .before in
-    let s = d .before .before .before .before in
-    let is = found d (f .fate2 .given .1) in
-    let stays = kept-stays (s .args .w) (primitives (s .args .table .now)) (choice (s .args .table .now) (s .args .k)) is in
-    let T = s .pre .1 .1 .1 .1 in
-    let h = s .pre .1 .1 .1 .0 in
-    (d .before .way .ensures .1, ((d .before .way .ensures .0, (is, new-first T h (stays .0) (stays .1) (m .number-in .ensures) (omega arith))), told-new T h (stays .0) (stays .1) (m .number-in .ensures) (omega arith)))
+    let way = m .before .before .before .before .before .way .ensures in
+    let T = start m .pre .1 .1 .1 .1 in
+    let h = start m .pre .1 .1 .1 .0 in
+    let N = m .number-in .ensures in
+    (way .1, ((way .0, (is m, new-first T h (comes m .0) (comes m .1) N (omega arith))), told-new T h (comes m .0) (comes m .1) N (omega arith)))
 
 pub tell-way-spec : {M : Type 1} → statement M
 tell-way-spec =
