@@ -12,10 +12,10 @@ fn show(title: &[u8], name: &[u8]) {
 
 // Says a title and tells the ways of a zone in a window.
 fn explain(title: &[u8], name: &[u8], w: Window) {
-    let mut text = io::buffer();
-    let size = lines::read_file(name, &mut text);
+    let fd = os::open_read(name);
     telling::say(title);
-    telling::tell_zone(&text[..size], w);
+    telling::tell_from(fd, w);
+    libc::close(fd);
 }
 
 // Some columns, and all codes and frames.
@@ -63,7 +63,7 @@ fn cases() {
     );
 }
 
-// The letters A to Z, and one primitive past them.
+// The letters A to Z, and as many primitives as there may be.
 fn names() {
     show(
         b"\nAll letters: in one of A to H and in one of I to P, out of Q to Z:\n",
@@ -74,11 +74,12 @@ fn names() {
         b"letters.zone",
         window::everywhere(),
     );
-    explain(b"\n53 rows:\n", b"past-z.zone", window::everywhere());
+    explain(b"\n127 rows:\n", b"most-rows.zone", window::everywhere());
 }
 
-// Each refusal that there is: of the text, of the table, of the window, and of the ways.
+// Each refusal that there is: of the text, its length first, of the table, of the window, and of the ways.
 fn refusals() {
+    explain(b"\n16,385 bytes:\n", b"long.zone", window::everywhere());
     explain(
         b"\nA space for a tab:\n",
         b"space.zone",

@@ -31,8 +31,5 @@ fn window_asked() -> Window {
 }
 
 fn main() {
-    // One byte more than a text may have, so that a longer one shows.
-    let mut text: [u8; 16385] = [0; 16385];
-    let read = io::read_full(0, &mut text);
-    telling::tell_zone(&text[..read], window_asked());
+    telling::tell_from(0, window_asked());
 }

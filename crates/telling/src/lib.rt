@@ -182,7 +182,7 @@ fn say_refused(r: Refusal) {
 }
 
 // Tells the ways of a table and its list, which there is always room for, or why there is none.
-pub fn tell_table(table: &[i32], w: Window)
+fn tell_table(table: &[i32], w: Window)
     requires { ⌜ Sound (now table) ⌝ }
 {
     let mut list: [u64; 131080] = [0; 131080];
@@ -197,11 +197,19 @@ pub fn tell_table(table: &[i32], w: Window)
 }
 
 // Tells the ways of the zone of a text and its list, or why there is none. The 127 rows of the table always suffice.
-pub fn tell_zone(text: &[u8], w: Window) {
+fn tell_zone(text: &[u8], w: Window) {
     let mut table: [i32; 1524] = [0; 1524];
     let read = zone::read_text(text, &mut table);
     match read {
         Written::Refused(r) => say_refused(r),
         Written::Wrote(words) => tell_table(&table[..words], w),
     }
+}
+
+// Reads the text on a descriptor whole, and tells its zone.
+pub fn tell_from(fd: i32, w: Window) {
+    // One byte more than a text may have, so that a longer one shows.
+    let mut text: [u8; 16385] = [0; 16385];
+    let read = io::read_full(fd, &mut text);
+    tell_zone(&text[..read], w);
 }
