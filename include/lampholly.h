@@ -28,11 +28,11 @@
    - Every input has an answer; no call has a precondition besides those above.
 
    Threads: calls keep no state, so they may run at the same time unless one writes a buffer that is lent to another.
-   Stack: bytes as measured (no bounds) on a table of 127 rows: check 272; write_text 368; list_point and list_search 512;
-   tree_point and tree_search 4,256; read_text 9,416; make_list: see docs/PERFORMANCE.md.
+   Stack: bytes as measured (no bounds) on tables of 127 rows: check 320; write_text 416; list_point 512; list_search 560;
+   tree_point 4,256; tree_search 4,320; read_text 7,696; make_list 11,408. docs/PERFORMANCE.md says how.
    Cost: linear in the rows for check, tree_point and write_text; in the bytes for read_text; in samples * rows for tree_search;
-   in rows + list words for list_point; in samples * (rows + list words) for list_search; for make_list at most in
-   rows * (rows + expansion count).
+   in rows + list words for list_point; in samples * (rows + list words) for list_search. make_list takes rows * rows, and then
+   what the choices take that it has to go through: docs/PERFORMANCE.md has times, and no bound is known.
 
    The table's refusals, in their order; each call that takes a table gives them first
       1  words not a multiple of 12, no row, or over 127 rows      value: words
