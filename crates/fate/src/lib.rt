@@ -87,7 +87,7 @@ pub fn product_box(table: &[i32], bits: &[u64; 127], c: Product, w: Window) -> B
         zlo: w.zlo,
         zhi: w.zhi,
     };
-    let mut row = table.len() / rules::ROW_WORDS;
+    let mut row = table::row_count(table);
     while 0 < row {
         row -= 1;
         b = cut_by_row(table, bits, row, c, b);
