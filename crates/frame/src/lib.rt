@@ -10,7 +10,7 @@ ghost use mathlib.Core.Option.{none};
 ghost use mathlib.Core.Path.{_≡_};
 ghost use lib.ListN.{length};
 ghost use Rattle.rules.specs.Boxes.{holds, everywhere};
-ghost use Rattle.rules.specs.Frame.{codeAt, pointOf, frameRefusal};
+ghost use Rattle.rules.specs.Frame.{mostSamples, codeAt, pointOf, frameRefusal};
 ghost use Rattle.rules.specs.Told.{fine, toldSearched};
 ghost use Rattle.rules.specs.TreeCalls.{searchTale};
 ghost use Rattle.laws.specs.Checking.{checkedBy};
@@ -24,7 +24,7 @@ pub struct Tally {
 
 // Every column from `first` on is in range.
 fn columns_right(first: i32, samples: usize) -> bool
-    requires { ⌜ (1 ≤ samples) × (samples ≤ 65536) ⌝ }
+    requires { ⌜ (1 ≤ samples) × (samples ≤ mostSamples) ⌝ }
     ensures { λ r. ⌜ r ≡ columnsRight first samples ⌝ }
 {
     let last = (first as i64) + ((samples - 1) as i64);
@@ -36,7 +36,7 @@ pub fn check_frame(samples: &[i16], place: Place) -> Checked
     ensures { λ r. ⌜ r ≡ checkedBy (frameRefusal (now (samples .entry)) place) ⌝ }
 {
     let n = samples.len();
-    if (n == 0) | (65536 < n) {
+    if (n == 0) | (rules::MOST_SAMPLES < n) {
         return table::refused(12, 0);
     }
     if !columns_right(place.first, n) {
@@ -66,7 +66,7 @@ pub fn point_at(samples: &[i16], place: Place, k: usize) -> Point
 
 // The tally with sample k.
 pub fn counted(t: Tally, k: usize, hit: bool) -> Tally
-    requires { ⌜ t .count ≤ 65536 ⌝ }
+    requires { ⌜ t .count ≤ mostSamples ⌝ }
     ensures { λ r. ⌜ r ≡ stepped t k hit ⌝ }
 {
     if !hit {

@@ -20,6 +20,11 @@ pub const LEAST_CODE: i32 = -GREATEST_CODE - 1;
 
 pub const LEAST_FRAME: i32 = -GREATEST_FRAME - 1;
 
+// The slopes of a wedge's plane.
+pub const GREATEST_SLOPE: i32 = 32767;
+
+pub const LEAST_SLOPE: i32 = -GREATEST_SLOPE - 1;
+
 // What the header of a list adds to a bound of each axis.
 pub const COLUMN_OFFSET: u64 = GREATEST_COLUMN as u64 + 1;
 
@@ -35,6 +40,11 @@ pub const PRIMITIVES_WORD: usize = 7;
 pub const PRODUCT_WORDS: usize = 2;
 
 pub const MOST_PRODUCTS: usize = 65536;
+
+// The choices of a zone of which a list is made, and the samples of a frame.
+pub const MOST_CHOICES: u64 = 65536;
+
+pub const MOST_SAMPLES: usize = 65536;
 
 pub const ROW_WORDS: usize = 12;
 

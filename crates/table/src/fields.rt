@@ -32,9 +32,10 @@ fn box_right(b: BoxShape) -> bool
 fn slopes_right(a: i32, b: i32, c: i32) -> bool
     ensures { λ r. ⌜ r ≡ slopesRight a b c ⌝ }
 {
-    ((-32768 <= a) & (a <= 32767))
-        & (((-32768 <= b) & (b <= 32767))
-            & (((-32768 <= c) & (c <= 32767)) & !((a == 0) & ((b == 0) & (c == 0)))))
+    ((rules::LEAST_SLOPE <= a) & (a <= rules::GREATEST_SLOPE))
+        & (((rules::LEAST_SLOPE <= b) & (b <= rules::GREATEST_SLOPE))
+            & (((rules::LEAST_SLOPE <= c) & (c <= rules::GREATEST_SLOPE))
+                & !((a == 0) & ((b == 0) & (c == 0)))))
 }
 
 fn wedge_right(w: WedgeShape) -> bool
