@@ -29,9 +29,9 @@ use Rattle.laws.proofs.Soundness.{table-sound}
 use Rattle.laws.proofs.Texts.{read-done}
 use Rattle.number.specs.Writing.{Put}
 use Rattle.number.proofs.Writing.{put-same, put-over}
-use Rattle.print.specs.Lines.{tableListing}
+use Rattle.pipe.specs.Tables.{tableListing}
 use Rattle.print.proofs.Lengths.{refusal-most}
-use Rattle.print.proofs.Made.{table-most}
+use Rattle.pipe.proofs.Made.{table-most}
 
 few-words : (t : List ℤ) → tableRefusal t ≡ none → length t ≤ mostRows * rowWords
 few-words t e = let S = table-sound t e in omega (arith, S .whole, S .not-over)

@@ -8,9 +8,9 @@ use Rattle.rules.specs.declared.Written.{Written}
 use Rattle.rules.specs.ListCalls.{ListMade}
 use Rattle.rules.specs.Boxes.{fullRange}
 use Rattle.number.proofs.Writing.{put-same}
-use Rattle.print.proofs.Made.{made-as, refused-listing, made-listing, made-whole}
-use Rattle.print.proofs.list_table.Statement.{statement}
-use Rattle.print.proofs.list_table.Tie as tie
+use Rattle.pipe.proofs.Made.{made-as, refused-listing, made-listing, made-whole}
+use Rattle.pipe.proofs.list_table.Statement.{statement}
+use Rattle.pipe.proofs.list_table.Tie as tie
 
 -- the buffer before the list is made
 abbrev zeros : List ℕ

@@ -7,9 +7,9 @@ use lib.Seq.{length-take-le}
 use Rattle.rules.specs.declared.Written.{Written}
 use Rattle.rules.specs.TextCalls.{TextRead}
 use Rattle.laws.proofs.Texts.{read-fits}
-use Rattle.print.proofs.Read.{text-refused, text-listed}
-use Rattle.print.proofs.list_zone.Statement.{statement}
-use Rattle.print.proofs.list_zone.Tie as tie
+use Rattle.pipe.proofs.Read.{text-refused, text-listed}
+use Rattle.pipe.proofs.list_zone.Statement.{statement}
+use Rattle.pipe.proofs.list_zone.Tie as tie
 
 -- the table before the text is read
 abbrev zeros : List ℤ
