@@ -1,6 +1,5 @@
 -- What C gets of a call, by what the outcome tells (section 12 of docs/RULES.md): its number and values as three numbers; and what C reads in them.
 use Prim.Native.Nat.{ℕ}
-use mathlib.Core.Path.{_≡_}
 use lib.Dec.{eqb}
 use Rattle.ground.specs.Tests.{if_then_else_}
 use Rattle.rules.specs.declared.Refusal.{Refusal}
@@ -13,7 +12,7 @@ use Rattle.rules.specs.declared.Searched.the-variants as searched
 use Rattle.rules.specs.declared.Written.{Written}
 use Rattle.rules.specs.declared.Written.the-variants as written
 use Rattle.rules.specs.Told.{Tale, sound, inside, outside, clear, hit, wrote, refusal, Told}
-use Rattle.zone_c.specs.declared.Answer.{Answer}
+use Rattle.answer_c.specs.declared.Answer.{Answer}
 
 abbrev pub valueOf : Tale → ℕ
 valueOf sound = 0
@@ -36,12 +35,6 @@ countOf (refusal value) = 0
 abbrev pub answerOf : Told → Answer
 answerOf told = record { refusal = told .number; value = valueOf (told .tale); count = countOf (told .tale) }
 
--- what C gets of a call with this promise: the answer of an outcome that keeps it
-pub record Answered {Outcome : Type 0} (told : Outcome → Told) (promise : Outcome → Type 0) (a : Answer) : Type 0 where
-  pub outcome : Outcome
-  pub kept : promise outcome
-  pub is : a ≡ answerOf (told outcome)
-
 -- ---- what C reads in an answer: a refusal where `refusal` is not 0, and else what the call says
 
 abbrev pub unlessRefused : {Outcome : Type 0} → (Refusal → Outcome) → Answer → Outcome → Outcome
@@ -58,7 +51,3 @@ readSearched a = unlessRefused searched.Refused a (if eqb (a .count) 0 then sear
 
 abbrev pub readWritten : Answer → Written
 readWritten a = unlessRefused written.Refused a (written.Wrote (a .value))
-
--- in every answer that C gets of a call with this promise, C reads the outcome
-pub record Readable {Outcome : Type 0} (told : Outcome → Told) (read : Answer → Outcome) (promise : Outcome → Type 0) : Type 0 where
-  pub reads : {a : Answer} (p : Answered told promise a) → read a ≡ p .outcome

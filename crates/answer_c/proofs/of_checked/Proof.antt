@@ -1,9 +1,9 @@
 use mathlib.Core.Path.{sym, ap, _∙_}
 use borrow.Author.Needs.{needs}
 use Rattle.rules.specs.Told.{toldChecked}
-use Rattle.zone_c.specs.Answers.{answerOf}
-use Rattle.zone_c.proofs.of_checked.Statement.{statement}
-use Rattle.zone_c.proofs.of_checked.Tie as tie
+use Rattle.answer_c.specs.Answers.{answerOf}
+use Rattle.answer_c.proofs.of_checked.Statement.{statement}
+use Rattle.answer_c.proofs.of_checked.Tie as tie
 
 enum-told : tie.Need-enum-told
 enum-told c = search needs

@@ -1,9 +1,9 @@
 use mathlib.Core.Path.{sym, ap, _∙_}
 use borrow.Author.Needs.{needs}
 use Rattle.rules.specs.Told.{toldWritten}
-use Rattle.zone_c.specs.Answers.{answerOf}
-use Rattle.zone_c.proofs.of_written.Statement.{statement}
-use Rattle.zone_c.proofs.of_written.Tie as tie
+use Rattle.answer_c.specs.Answers.{answerOf}
+use Rattle.answer_c.proofs.of_written.Statement.{statement}
+use Rattle.answer_c.proofs.of_written.Tie as tie
 
 enum-known-written : tie.Need-enum-known-written
 enum-known-written c = search needs
