@@ -1,7 +1,7 @@
 use borrow.Author.Needs.{needs}
-use Rattle.reading.proofs.ReadPieces.{no-zone, wrong-count, header-read}
-use Rattle.reading.proofs.read_header.Statement.{statement}
-use Rattle.reading.proofs.read_header.Tie as tie
+use Rattle.piece.proofs.ReadPieces.{no-zone, wrong-count, header-read}
+use Rattle.piece.proofs.read_header.Statement.{statement}
+use Rattle.piece.proofs.read_header.Tie as tie
 
 slice-aggregate-read-bytes : tie.Need-slice-aggregate-read-bytes
 slice-aggregate-read-bytes c = search needs

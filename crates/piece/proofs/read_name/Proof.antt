@@ -7,9 +7,9 @@ use lib.ListN.{drop}
 use Rattle.rules.specs.declared.Kind.{Kind}
 use Rattle.rules.specs.declared.Kind.the-variants.{Box, Wedge, Drum, Union, Inter, Diff}
 use Rattle.rules.specs.Text.{kindName}
-use Rattle.reading.proofs.ReadPieces.{named, not-named, named-last}
-use Rattle.reading.proofs.read_name.Statement.{statement}
-use Rattle.reading.proofs.read_name.Tie as tie
+use Rattle.piece.proofs.ReadPieces.{named, not-named, named-last}
+use Rattle.piece.proofs.read_name.Statement.{statement}
+use Rattle.piece.proofs.read_name.Tie as tie
 
 slice-aggregate-try-name : tie.Need-slice-aggregate-try-name
 slice-aggregate-try-name c = search needs

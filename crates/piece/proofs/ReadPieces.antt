@@ -20,7 +20,7 @@ use Rattle.rules.specs.TextForm.{RightRow}
 use Rattle.rules.proofs.Lines.{name-once, noRow}
 use Rattle.number.specs.declared.Number.{Number}
 use Rattle.number.specs.Reading.{Ended, ReadsNumber}
-use Rattle.reading.specs.Reading.{Stood, Reads, Any, ReadsBytes, TriesName, ReadsName, ReadsField, Fields, RightCount, ReadsCount}
+use Rattle.piece.specs.Pieces.{Stood, Reads, Any, ReadsBytes, TriesName, ReadsName, ReadsField, Fields, RightCount, ReadsCount}
 
 -- a line: something that begins it, something after that, and the line feed
 module _ {A B : Type 0} where

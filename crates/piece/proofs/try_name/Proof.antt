@@ -2,9 +2,9 @@ use Prim.Native.Nat.{ℕ}
 use mathlib.Core.List.{List}
 use mathlib.Core.Path.{refl, subst}
 use borrow.Author.Needs.{needs}
-use Rattle.reading.specs.Reading.{ReadsBytes}
-use Rattle.reading.proofs.try_name.Statement.{statement}
-use Rattle.reading.proofs.try_name.Tie as tie
+use Rattle.piece.specs.Pieces.{ReadsBytes}
+use Rattle.piece.proofs.try_name.Statement.{statement}
+use Rattle.piece.proofs.try_name.Tie as tie
 
 read-bytes-requires : tie.Need-read-bytes-requires
 read-bytes-requires c κs = search needs

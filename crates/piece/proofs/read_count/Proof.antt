@@ -6,10 +6,10 @@ use lib.IntN.{ℤ, natAbs}
 use lib.Signed.{nonNeg}
 use mir.Syntax.{w32}
 use mir.Val.{toZ, ofZ}
-use Rattle.reading.specs.Reading.{ReadsCount}
-use Rattle.reading.proofs.ReadPieces.{isCount, count-is, count-read, no-count}
-use Rattle.reading.proofs.read_count.Statement.{statement}
-use Rattle.reading.proofs.read_count.Tie as tie
+use Rattle.piece.specs.Pieces.{ReadsCount}
+use Rattle.piece.proofs.ReadPieces.{isCount, count-is, count-read, no-count}
+use Rattle.piece.proofs.read_count.Statement.{statement}
+use Rattle.piece.proofs.read_count.Tie as tie
 
 -- the number, as it was read and as the local holds it
 held : (f : tie.After-read-field) → toZ w32 (ofZ w32 (f .read-field .result .value)) ≡ f .read-field .result .value

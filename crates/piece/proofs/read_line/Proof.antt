@@ -12,9 +12,9 @@ use Rattle.ground.proofs.Branches.{false-true}
 use Rattle.rules.specs.Kinds.{kindNumber}
 use Rattle.rules.proofs.Lines.{noRow}
 use Rattle.laws.proofs.TextLengths.{few-named}
-use Rattle.reading.proofs.ReadPieces.{no-name, no-words, row-read}
-use Rattle.reading.proofs.read_line.Statement.{statement}
-use Rattle.reading.proofs.read_line.Tie as tie
+use Rattle.piece.proofs.ReadPieces.{no-name, no-words, row-read}
+use Rattle.piece.proofs.read_line.Statement.{statement}
+use Rattle.piece.proofs.read_line.Tie as tie
 
 read-name-requires : tie.Need-read-name-requires
 read-name-requires c κs = search needs

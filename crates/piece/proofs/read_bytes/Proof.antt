@@ -1,8 +1,8 @@
 use mathlib.Core.Path.{refl}
 use borrow.Author.Needs.{needs}
-use Rattle.reading.proofs.ReadPieces.{no-room, bytes-read}
-use Rattle.reading.proofs.read_bytes.Statement.{statement}
-use Rattle.reading.proofs.read_bytes.Tie as tie
+use Rattle.piece.proofs.ReadPieces.{no-room, bytes-read}
+use Rattle.piece.proofs.read_bytes.Statement.{statement}
+use Rattle.piece.proofs.read_bytes.Tie as tie
 
 sub-if1 : tie.Need-sub-if1
 sub-if1 c = search needs

@@ -11,13 +11,13 @@ use lib.ListN.{length, set, length-set}
 use lib.Seq.{sets, length-sets}
 use mir.Syntax.{w32}
 use mir.Val.{toZ, ofZ}
-use Rattle.reading.proofs.ReadPieces.{none-wanted, no-field, fields-read}
-use Rattle.reading.proofs.read_fields.Reads as read-fields
-use Rattle.reading.proofs.read_fields.Kinds as read-fields-kinds
-use Rattle.reading.proofs.+read_fields.Lts-read_fields as read-fields-lts
-use Rattle.reading.proofs.read_field.Reads as read-field-reads
-use Rattle.reading.proofs.+read_fields.{statement}
-use Rattle.reading.proofs.+read_fields.Tie.{close}
+use Rattle.piece.proofs.ReadPieces.{none-wanted, no-field, fields-read}
+use Rattle.piece.proofs.read_fields.Reads as read-fields
+use Rattle.piece.proofs.read_fields.Kinds as read-fields-kinds
+use Rattle.piece.proofs.+read_fields.Lts-read_fields as read-fields-lts
+use Rattle.piece.proofs.read_field.Reads as read-field-reads
+use Rattle.piece.proofs.+read_fields.{statement}
+use Rattle.piece.proofs.+read_fields.Tie.{close}
 
 abbrev μ-read-fields : Measures 2 read-fields-kinds.ps ℕ
 μ-read-fields κs a = a .1 .1 .1 .1 .0

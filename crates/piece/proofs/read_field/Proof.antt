@@ -1,7 +1,7 @@
 use borrow.Author.Needs.{needs}
-use Rattle.reading.proofs.ReadPieces.{no-tab, field-read}
-use Rattle.reading.proofs.read_field.Statement.{statement}
-use Rattle.reading.proofs.read_field.Tie as tie
+use Rattle.piece.proofs.ReadPieces.{no-tab, field-read}
+use Rattle.piece.proofs.read_field.Statement.{statement}
+use Rattle.piece.proofs.read_field.Tie as tie
 
 slice-aggregate-read-bytes : tie.Need-slice-aggregate-read-bytes
 slice-aggregate-read-bytes c = search needs
