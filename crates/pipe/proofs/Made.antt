@@ -28,8 +28,8 @@ use Rattle.rules.proofs.Told.{wrote-none, refused-some}
 use Rattle.laws.proofs.Soundness.{unless-kept}
 use Rattle.laws.proofs.Words.{list-length, list-count, zone-products}
 use Rattle.laws.proofs.ZoneProducts.{is-over}
-use Rattle.pipe.specs.Tables.{tableListing}
 use Rattle.print.proofs.Lengths.{list-most, refusal-most}
+use Rattle.pipe.specs.Tables.{tableListing}
 
 -- the window that was lent is the full range, and the answer is this one
 pub made-as : {t : List ℤ} {w : Window} {before after : List ℕ} {r s : Written} → w ≡ fullRange → r ≡ s → ListMade t w before after r

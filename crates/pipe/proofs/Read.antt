@@ -29,8 +29,8 @@ use Rattle.laws.proofs.Soundness.{table-sound}
 use Rattle.laws.proofs.Texts.{read-done}
 use Rattle.number.specs.Writing.{Put}
 use Rattle.number.proofs.Writing.{put-same, put-over}
-use Rattle.pipe.specs.Tables.{tableListing}
 use Rattle.print.proofs.Lengths.{refusal-most}
+use Rattle.pipe.specs.Tables.{tableListing}
 use Rattle.pipe.proofs.Made.{table-most}
 
 few-words : (t : List ℤ) → tableRefusal t ≡ none → length t ≤ mostRows * rowWords

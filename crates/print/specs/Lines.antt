@@ -1,4 +1,4 @@
--- Parts of what is printed for a list: two words of a line, and the lines of its first products.
+-- Parts of what is printed: two words of a line, and the lines of a list's first products.
 use Prim.Native.Nat.{ℕ}
 use mathlib.Core.List.{List, [], _∷_, _++_, map, flatMap}
 use Rattle.ground.specs.Lists.{below}
