@@ -1,4 +1,2 @@
 pub mod Lengths
 pub mod Lines
-pub mod Made
-pub mod Read

@@ -1,16 +1,10 @@
--- What is printed for a table, and parts of it: two words of a line, and the lines of a list's first products.
+-- Parts of what is printed: two words of a line, and the lines of a list's first products.
 use Prim.Native.Nat.{ℕ}
 use mathlib.Core.List.{List, [], _∷_, _++_, map, flatMap}
-use lib.IntN.{ℤ}
 use Rattle.ground.specs.Lists.{below}
-use Rattle.rules.specs.ListCalls.{makeRefusal}
-use Rattle.rules.specs.Boxes.{fullRange}
-use Rattle.rules.specs.Listing.{listingRoom, wordText, productLine, printed}
+use Rattle.rules.specs.Listing.{wordText, productLine}
 use Rattle.rules.specs.ListWords.{productAt}
-use Rattle.rules.specs.Products.{products}
-use Rattle.rules.specs.Table.{primitives}
 use Rattle.rules.specs.Text.{tab, lineFeed}
-use Rattle.rules.specs.Tree.{treeOf}
 
 -- two words at a line's end: a product's line, and what a refusal's line has after its name
 abbrev pub pairText : ℕ → ℕ → List ℕ
@@ -19,6 +13,3 @@ pairText first second = wordText first ++ (tab ∷ (wordText second ++ (lineFeed
 -- the lines of the first k products
 abbrev pub linesTo : List ℕ → ℕ → List ℕ
 linesTo list k = flatMap productLine (map (productAt list) (below k))
-
-abbrev pub tableListing : List ℤ → List ℕ
-tableListing t = printed (makeRefusal t fullRange listingRoom) (products fullRange (primitives t) (treeOf t))

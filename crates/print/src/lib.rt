@@ -1,13 +1,12 @@
-// What the listing program prints for a text: the lines of the zone's list, or the line of a refusal.
+// What the listing program prints, put into a buffer: the lines of a list, or the line of a refusal.
 use rules::Refusal;
-use rules::Written;
 ghost use Prim.Native.Nat.{_+_, _*_, _≤_};
 ghost use mathlib.Core.List.{[], _∷_, _++_};
 ghost use lib.ListN.{length};
 ghost use Rattle.rules.specs.ListWords.{productCount, placeOf, productsIn};
-ghost use Rattle.rules.specs.Listing.{wordText, listLines, refusalLine, ZoneListed};
+ghost use Rattle.rules.specs.Listing.{wordText, listLines, refusalLine};
 ghost use Rattle.number.specs.Writing.{Put};
-ghost use Rattle.print.specs.Lines.{pairText, linesTo, tableListing};
+ghost use Rattle.print.specs.Lines.{pairText, linesTo};
 
 // Writes a word and the byte after it, and answers the position after both.
 fn put_word(out: &mut [u8], at: usize, n: u64, last: u8) -> usize
@@ -45,7 +44,7 @@ fn put_products(out: &mut [u8], at: usize, list: &[u64], count: usize) -> usize
 }
 
 // Writes the lines of a list: the number of its products, and each of them.
-fn put_list(out: &mut [u8], list: &[u64]) -> usize
+pub fn put_list(out: &mut [u8], list: &[u64]) -> usize
     requires { ⌜ (placeOf (productCount (now list)) ≤ length (now list)) × (productCount (now list) ≤ 4092) ⌝ }
     requires { ⌜ 171890 ≤ length (now out) ⌝ }
     ensures { λ r. ⌜ Put (now (out .entry)) 0 (listLines (productsIn (now (list .entry)))) (now (out .exit)) r ⌝ }
@@ -57,38 +56,10 @@ fn put_list(out: &mut [u8], list: &[u64]) -> usize
 }
 
 // Writes a refusal's line.
-fn put_refusal(out: &mut [u8], r: Refusal) -> usize
+pub fn put_refusal(out: &mut [u8], r: Refusal) -> usize
     requires { ⌜ 50 ≤ length (now out) ⌝ }
     ensures { λ n. ⌜ Put (now (out .entry)) 0 (refusalLine r) (now (out .exit)) n ⌝ }
 {
     let named = number::put_bytes(out, 0, b"refused\t");
     put_pair(out, named, r.number, r.value)
-}
-
-// Makes a table's list for the full range, in a buffer of 8,192 words, and writes what is printed for it: a first line of at most 26 bytes, and
-// at most 42 for each of 4,092 products.
-fn list_table(table: &[i32], out: &mut [u8]) -> usize
-    requires { ⌜ 171890 ≤ length (now out) ⌝ }
-    ensures { λ r. ⌜ Put (now (out .entry)) 0 (tableListing (now (table .entry))) (now (out .exit)) r ⌝ }
-{
-    let mut list: [u64; 8192] = [0; 8192];
-    let made = zone::make_list(table, window::everywhere(), &mut list);
-    match made {
-        Written::Refused(refusal) => put_refusal(out, refusal),
-        Written::Wrote(_) => put_list(out, &list),
-    }
-}
-
-// Reads a text into a table, whose 127 rows always suffice, and writes what is printed for it.
-pub fn list_zone(text: &[u8], out: &mut [u8]) -> usize
-    requires { ⌜ 171890 ≤ length (now out) ⌝ }
-    ensures { λ r. ⌜ ZoneListed (now (text .entry)) (now (out .entry)) (now (out .exit)) r ⌝ }
-    ensures { λ r. ⌜ r ≤ 171890 ⌝ }
-{
-    let mut table: [i32; 1524] = [0; 1524];
-    let read = zone::read_text(text, &mut table);
-    match read {
-        Written::Refused(refusal) => put_refusal(out, refusal),
-        Written::Wrote(words) => list_table(&table[..words], out),
-    }
 }

@@ -1,4 +1,3 @@
 pub mod LineFaults
 pub mod ReadCalls
-pub mod ReadPieces
 pub mod ReadTables

@@ -1,5 +1,5 @@
 -- The lines of a text that was read up to a position: which is the first that is faulty. Assumes nothing.
-use Prim.Native.Nat.{ℕ, suc, _+_, _≤_, _<_}
+use Prim.Native.Nat.{ℕ, suc, _+_, _<_}
 use native.Mathlib.Omega.{arith}
 use mathlib.Core.Bool.{Bool, true, false}
 use mathlib.Core.List.{List, [], _∷_, _++_, map}
@@ -12,8 +12,9 @@ use Rattle.ground.specs.Tests.{if_then_else_}
 use Rattle.rules.specs.Text.{lineFeed, headerLine, lineOf}
 use Rattle.rules.specs.TextForm.{prepended, linesOf, RightHeader, lineAfter, RightRows, FirstFault, no-header, no-row, no-end}
 use Rattle.rules.proofs.Lines.{begun-lines, begun-rows}
-use Rattle.reading.specs.Reading.{RightCount, ReadsHeader, ReadsLine, Begun}
-use Rattle.reading.proofs.ReadPieces.{none-there}
+use Rattle.piece.specs.Pieces.{RightCount, ReadsHeader, ReadsLine}
+use Rattle.piece.proofs.ReadPieces.{none-there}
+use Rattle.reading.specs.Reading.{Begun}
 
 -- ---- the first of some lines
 

@@ -15,8 +15,9 @@ use Rattle.rules.specs.Text.{TextRow, headerLine, lineOf, tableRow, tableOf}
 use Rattle.rules.specs.TextForm.{RightRow}
 use Rattle.laws.proofs.Texts.{table-length}
 use Rattle.laws.proofs.TextLengths.{few-named, Named}
-use Rattle.reading.specs.Reading.{Stood, ReadsLine, RightCount, ReadsHeader, Begun, SpeltOut}
-use Rattle.reading.proofs.ReadPieces.{stood-on}
+use Rattle.piece.specs.Pieces.{Stood, ReadsLine, RightCount, ReadsHeader}
+use Rattle.piece.proofs.ReadPieces.{stood-on}
+use Rattle.reading.specs.Reading.{Begun, SpeltOut}
 
 flatMap-last : {A B : Type 0} (f : A → List B) (xs : List A) (x : A) → flatMap f (xs ++ (x ∷ [])) ≡ flatMap f xs ++ f x
 unfolding flatMap

@@ -25,8 +25,9 @@ use Rattle.rules.specs.ListCalls.{ListMade, ListLocated, ListSearched}
 use Rattle.rules.specs.TextCalls.{TextRead, TextWritten}
 use Rattle.promises.specs.Possible.{Possible}
 use Rattle.promises.proofs.Possible as law
-use Rattle.zone_c.specs.declared.Answer.{Answer}
-use Rattle.zone_c.specs.Answers.{answerOf, Answered, unlessRefused, readChecked, readLocated, readSearched, readWritten, Readable}
+use Rattle.answer_c.specs.declared.Answer.{Answer}
+use Rattle.answer_c.specs.Answers.{answerOf, unlessRefused, readChecked, readLocated, readSearched, readWritten}
+use Rattle.zone_c.specs.Answered.{Answered, Readable}
 
 -- ---- what is possible is read back
 

@@ -5,8 +5,9 @@ use mir.Syntax.{w32}
 use mir.Val.{SFits, toZ, ofZ}
 use mir.ValLaws.{toZ-ofZ}
 use Rattle.rules.specs.Told.{Told}
-use Rattle.zone_c.specs.declared.Answer.{Answer}
-use Rattle.zone_c.specs.Answers.{answerOf, Answered}
+use Rattle.answer_c.specs.declared.Answer.{Answer}
+use Rattle.answer_c.specs.Answers.{answerOf}
+use Rattle.zone_c.specs.Answered.{Answered}
 use Rattle.zone_c.specs.Lent.{point, place}
 
 abbrev held : ℤ → ℤ

@@ -11,8 +11,9 @@ use Rattle.rules.specs.TreeCalls.{TableChecked, TreeLocated, TreeSearched}
 use Rattle.rules.specs.ListCalls.{ListMade, ListLocated, ListSearched}
 use Rattle.rules.specs.TextCalls.{TextRead, TextWritten}
 use Rattle.rules.proofs.Settled as outcome
-use Rattle.zone_c.specs.declared.Answer.{Answer}
-use Rattle.zone_c.specs.Answers.{answerOf, Answered}
+use Rattle.answer_c.specs.declared.Answer.{Answer}
+use Rattle.answer_c.specs.Answers.{answerOf}
+use Rattle.zone_c.specs.Answered.{Answered}
 
 -- answers to C with the same outcome are the same
 same-answer : {Outcome : Type 0} {told : Outcome → Told} {P Q : Outcome → Type 0} {a b : Answer} (p : Answered told P a) (q : Answered told Q b)

@@ -1,2 +1,2 @@
-pub mod Answers
+pub mod Answered
 pub mod Lent

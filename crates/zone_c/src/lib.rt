@@ -1,87 +1,21 @@
 // The public calls for C. Each makes one call of zone and tells its outcome in three numbers; a lent buffer is left as that call leaves it.
-use rules::Checked;
-use rules::Located;
+use answer_c::Answer;
 use rules::Place;
 use rules::Point;
-use rules::Searched;
 use rules::Window;
-use rules::Written;
-ghost use mathlib.Core.Path.{_≡_};
 ghost use Rattle.rules.specs.Told.{toldChecked, toldLocated, toldSearched, toldWritten};
 ghost use Rattle.rules.specs.TreeCalls.{TableChecked, TreeLocated, TreeSearched};
 ghost use Rattle.rules.specs.ListCalls.{ListMade, ListLocated, ListSearched};
 ghost use Rattle.rules.specs.TextCalls.{TextRead, TextWritten};
-ghost use Rattle.zone_c.specs.Answers.{answerOf, Answered};
+ghost use Rattle.zone_c.specs.Answered.{Answered};
 ghost use Rattle.zone_c.specs.Lent.{point, place};
-
-// The refusal's number, 0 where nothing is refused; then its value, 1 for inside, the words or bytes written, or the position of the first inside
-// sample; then the number of inside samples. What is not named is 0.
-#[repr(C)]
-pub struct Answer {
-    pub refusal: u64,
-    pub value: u64,
-    pub count: u64,
-}
-
-// The answer with these numbers.
-fn numbers(refusal: u64, value: u64, count: u64) -> Answer
-    ensures { λ r. ⌜ r ≡ record { refusal = refusal; value = value; count = count } ⌝ }
-{
-    Answer {
-        refusal,
-        value,
-        count,
-    }
-}
-
-// The answer of the check of a table.
-fn of_checked(checked: Checked) -> Answer
-    ensures { λ r. ⌜ r ≡ answerOf (toldChecked checked) ⌝ }
-{
-    match checked {
-        Checked::Sound => numbers(0, 0, 0),
-        Checked::Refused(refusal) => numbers(refusal.number, refusal.value, 0),
-    }
-}
-
-// The answer of a question about one point.
-fn of_located(located: Located) -> Answer
-    ensures { λ r. ⌜ r ≡ answerOf (toldLocated located) ⌝ }
-{
-    match located {
-        Located::Outside => numbers(0, 0, 0),
-        Located::Inside => numbers(0, 1, 0),
-        Located::Refused(refusal) => numbers(refusal.number, refusal.value, 0),
-    }
-}
-
-// The answer of the search of a frame.
-fn of_searched(searched: Searched) -> Answer
-    ensures { λ r. ⌜ r ≡ answerOf (toldSearched searched) ⌝ }
-{
-    match searched {
-        Searched::Clear => numbers(0, 0, 0),
-        Searched::Hit { first, count } => numbers(0, first as u64, count as u64),
-        Searched::Refused(refusal) => numbers(refusal.number, refusal.value, 0),
-    }
-}
-
-// The answer of a call that writes.
-fn of_written(written: Written) -> Answer
-    ensures { λ r. ⌜ r ≡ answerOf (toldWritten written) ⌝ }
-{
-    match written {
-        Written::Wrote(n) => numbers(0, n as u64, 0),
-        Written::Refused(refusal) => numbers(refusal.number, refusal.value, 0),
-    }
-}
 
 // zone::check_table: whether a table is sound.
 #[no_mangle]
 pub extern "C" fn lampholly_check(table: &[i32]) -> Answer
     ensures { λ r. ⌜ Answered toldChecked (TableChecked (now (table .entry))) r ⌝ }
 {
-    of_checked(zone::check_table(table))
+    answer_c::of_checked(zone::check_table(table))
 }
 
 // zone::tree_point: whether a point is inside the zone, by its tree.
@@ -89,7 +23,7 @@ pub extern "C" fn lampholly_check(table: &[i32]) -> Answer
 pub extern "C" fn lampholly_tree_point(table: &[i32], x: i32, y: i32, z: i32) -> Answer
     ensures { λ r. ⌜ Answered toldLocated (TreeLocated (now (table .entry)) (point x y z)) r ⌝ }
 {
-    of_located(zone::tree_point(table, Point { x, y, z }))
+    answer_c::of_located(zone::tree_point(table, Point { x, y, z }))
 }
 
 // zone::tree_search: the first inside sample of a frame and how many there are, by the tree.
@@ -102,7 +36,7 @@ pub extern "C" fn lampholly_tree_search(
 ) -> Answer
     ensures { λ r. ⌜ Answered toldSearched (TreeSearched (now (table .entry)) (now (samples .entry)) (place first frame)) r ⌝ }
 {
-    of_searched(zone::tree_search(table, samples, Place { first, frame }))
+    answer_c::of_searched(zone::tree_search(table, samples, Place { first, frame }))
 }
 
 // zone::make_list: writes the zone's list for a window.
@@ -110,7 +44,7 @@ pub extern "C" fn lampholly_tree_search(
 pub extern "C" fn lampholly_make_list(table: &[i32], window: Window, list: &mut [u64]) -> Answer
     ensures { λ r. ⌜ Answered toldWritten (ListMade (now (table .entry)) window (now (list .entry)) (now (list .exit))) r ⌝ }
 {
-    of_written(zone::make_list(table, window, list))
+    answer_c::of_written(zone::make_list(table, window, list))
 }
 
 // zone::list_point: whether a point is inside a list.
@@ -124,7 +58,7 @@ pub extern "C" fn lampholly_list_point(
 ) -> Answer
     ensures { λ r. ⌜ Answered toldLocated (ListLocated (now (table .entry)) (now (list .entry)) (point x y z)) r ⌝ }
 {
-    of_located(zone::list_point(table, list, Point { x, y, z }))
+    answer_c::of_located(zone::list_point(table, list, Point { x, y, z }))
 }
 
 // zone::list_search: the first inside sample of a frame and how many there are, by a list.
@@ -138,7 +72,7 @@ pub extern "C" fn lampholly_list_search(
 ) -> Answer
     ensures { λ r. ⌜ Answered toldSearched (ListSearched (now (table .entry)) (now (list .entry)) (now (samples .entry)) (place first frame)) r ⌝ }
 {
-    of_searched(zone::list_search(table, list, samples, Place { first, frame }))
+    answer_c::of_searched(zone::list_search(table, list, samples, Place { first, frame }))
 }
 
 // zone::read_text: reads zone text into a table.
@@ -146,7 +80,7 @@ pub extern "C" fn lampholly_list_search(
 pub extern "C" fn lampholly_read_text(text: &[u8], table: &mut [i32]) -> Answer
     ensures { λ r. ⌜ Answered toldWritten (TextRead (now (text .entry)) (now (table .entry)) (now (table .exit))) r ⌝ }
 {
-    of_written(zone::read_text(text, table))
+    answer_c::of_written(zone::read_text(text, table))
 }
 
 // zone::write_text: writes the text of a table.
@@ -154,5 +88,5 @@ pub extern "C" fn lampholly_read_text(text: &[u8], table: &mut [i32]) -> Answer
 pub extern "C" fn lampholly_write_text(table: &[i32], text: &mut [u8]) -> Answer
     ensures { λ r. ⌜ Answered toldWritten (TextWritten (now (table .entry)) (now (text .entry)) (now (text .exit))) r ⌝ }
 {
-    of_written(zone::write_text(table, text))
+    answer_c::of_written(zone::write_text(table, text))
 }
