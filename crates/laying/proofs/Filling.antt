@@ -11,11 +11,11 @@ use lib.ListN.{length, getD, set, length-set}
 use lib.Seq.{sets, length-sets, getD-set-same, getD-set-other}
 use Rattle.ground.specs.Tests.{if_then_else_}
 use Rattle.laws.specs.Plans.{Plan, with-it, without, mask, blank}
-use Rattle.walk.specs.Walks.{risk, span}
-use Rattle.walk.specs.Rows.{kindAt, leftAt, planIn, Inner, Later, SoundLinks}
+use Rattle.rows.specs.Parts.{risk, span}
+use Rattle.rows.specs.Rows.{kindAt, leftAt, planIn, Inner, Later, SoundLinks}
 use Rattle.laying.specs.Laying.{MasksOf, LeavesTo, FullFrom, HolesFrom, Fills, eitherMasks, bothMasks, leftHole, rightHole, holeOf, filledIn}
-use Rattle.walk.proofs.Rows.{plan-leaf, plan-either, plan-both, blank-either, blank-both}
-use Rattle.walk.proofs.Writes.{sets-stands, sets-before, sets-after, stands-first}
+use Rattle.rows.proofs.Rows.{plan-leaf, plan-either, plan-both, blank-either, blank-both}
+use Rattle.rows.proofs.Writes.{sets-stands, sets-before, sets-after, stands-first}
 
 -- a row's masks, and another row's
 module _ (meets : List ℕ) (seen : ℕ) (masks : List ℕ) (x b w r : ℕ) where

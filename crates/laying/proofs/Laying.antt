@@ -14,11 +14,11 @@ use Rattle.rules.specs.Table.{rowCount, primitives}
 use Rattle.laws.specs.Plans.{Plan, with-it, without, mask}
 use Rattle.laws.specs.Reach.{meetings}
 use Rattle.choice.specs.Steps.{planAt}
-use Rattle.walk.specs.Walks.{span, risk}
-use Rattle.walk.specs.Rows.{kindAt, leftAt}
-use Rattle.walk.specs.Lines.{rowsOf, line, lines, Stands}
+use Rattle.rows.specs.Parts.{span, risk}
+use Rattle.rows.specs.Rows.{kindAt, leftAt}
+use Rattle.rows.specs.Lines.{rowsOf, line, lines, Stands}
 use Rattle.laying.specs.Laying.{sideOf, leafPlan, Coming, planOf, linesOf, Comes, MasksOf, allRows, allLines, Laying}
-use Rattle.walk.proofs.Writes.{sets-stands, sets-before, sets-after, stands-same}
+use Rattle.rows.proofs.Writes.{sets-stands, sets-before, sets-after, stands-same}
 use Rattle.laying.proofs.Lines.{Line, line-of, some-row}
 use Rattle.laying.proofs.Filling.{masks-here, masks-there}
 

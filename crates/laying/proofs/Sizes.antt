@@ -18,7 +18,7 @@ use Rattle.laws.specs.Sound.{Sound}
 use Rattle.laws.proofs.Apart.{table-apart, mask-in-table, few-primitives}
 use Rattle.laws.proofs.Expansion.{leaves, leaves-ones}
 use Rattle.choice.specs.Steps.{sideOf, planAt}
-use Rattle.walk.specs.Lines.{rowsOf}
+use Rattle.rows.specs.Lines.{rowsOf}
 use Rattle.laying.specs.Laying.{SizedTo}
 
 either-side : (tree : Tree) → rowsOf (plan outOf tree) ≡ rowsOf (plan inOf tree)

@@ -17,11 +17,11 @@ use Rattle.rules.specs.Table.{rowCount, rowAt, primitives}
 use Rattle.laws.specs.Plans.{Plan, with-it, without, either, both, mask}
 use Rattle.laws.specs.Reach.{sharing}
 use Rattle.choice.specs.Steps.{planAt}
-use Rattle.walk.specs.Walks.{span}
-use Rattle.walk.specs.Rows.{kindAt, leftAt, nextAt, doneAt}
-use Rattle.walk.specs.Lines.{rowsOf, line, lines, Stands}
+use Rattle.rows.specs.Parts.{span}
+use Rattle.rows.specs.Rows.{kindAt, leftAt, nextAt, doneAt}
+use Rattle.rows.specs.Lines.{rowsOf, line, lines, Stands}
 use Rattle.laying.specs.Laying.{Given, SizedTo, sideOf, planOf, allRows, allLines, Laying}
-use Rattle.walk.proofs.Writes.{stands-left}
+use Rattle.rows.proofs.Writes.{stands-left}
 use Rattle.laying.proofs.Lines.{Pair, pair-of, some-row}
 use Rattle.laying.proofs.Laying.{First, first-of, side-by, within-all, laid-leaf, laid-pair}
 use Rattle.laying.proofs.Leaves.{leaf-row, leaf-number, leaf-span}

@@ -16,13 +16,13 @@ use Rattle.laws.specs.Plans.{Plan, ways, Apart}
 use Rattle.laws.specs.Reach.{cutDown, meetings}
 use Rattle.laws.specs.Sound.{Sound}
 use Rattle.choice.specs.Steps.{rootPlan}
-use Rattle.walk.specs.Rows.{kindAt, leftAt, SoundLinks}
-use Rattle.walk.specs.Lines.{line, Stands}
+use Rattle.rows.specs.Rows.{kindAt, leftAt, SoundLinks}
+use Rattle.rows.specs.Lines.{line, Stands}
 use Rattle.laying.specs.Laying.{allRows, allLines, leafPlan, MasksOf, LeavesTo, Fills, Comes, Laying, Laid}
 use Rattle.laying.proofs.Linked.{rows-survivors}
 use Rattle.laying.proofs.Lines.{length-lines, lines-plan, lines-sound, lines-tied}
 use Rattle.laying.proofs.Sizes.{plan-apart, few-rows}
-use Rattle.walk.proofs.Writes.{sets-stands}
+use Rattle.rows.proofs.Writes.{sets-stands}
 
 module _ (t : List ℤ) (S : Sound t) where
   last-row : rowCount t - 1 < rowCount t

@@ -16,10 +16,10 @@ use Rattle.laws.specs.Survivors.{survivors}
 use Rattle.laws.specs.Reach.{cutDown, meetings}
 use Rattle.laws.specs.Sound.{Sound}
 use Rattle.choice.specs.Steps.{planAt, rootPlan, Numbered}
-use Rattle.walk.specs.Walks.{span, risk}
-use Rattle.walk.specs.Rows.{kindAt, leftAt, belowAt, spanAt, riskAt, planIn, SoundRows}
+use Rattle.rows.specs.Parts.{span, risk}
+use Rattle.rows.specs.Rows.{kindAt, leftAt, belowAt, spanAt, riskAt, planIn, SoundRows}
+use Rattle.rows.specs.Lines.{rowsOf, line, lines, Stands}
 use Rattle.walk.specs.Tracks.{walkAt, startOf}
-use Rattle.walk.specs.Lines.{rowsOf, line, lines, Stands}
 
 -- what the rows are made from
 pub record Given (t : List ℤ) (bits : List ℕ) : Type 0 where

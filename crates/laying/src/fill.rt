@@ -1,12 +1,12 @@
 // The masks of rows with two parts, from the last row to the first, so that a row's parts have theirs before it.
-use walk::fields;
+use rows::fields;
 ghost use Prim.Native.Nat.{_+_, _*_, _<_};
 ghost use mathlib.Core.List.{[], _∷_};
 ghost use mathlib.Core.Path.{_≡_};
 ghost use lib.ListN.{length, set};
 ghost use lib.Seq.{sets};
 ghost use Rattle.ground.specs.Tests.{if_then_else_};
-ghost use Rattle.walk.specs.Rows.{kindAt, leftAt, Inner, SoundLinks};
+ghost use Rattle.rows.specs.Rows.{kindAt, leftAt, Inner, SoundLinks};
 ghost use Rattle.laying.specs.Laying.{eitherMasks, bothMasks, holeOf, filledIn, Fills};
 
 pub fn put_masks(masks: &mut [u64; 381], row: usize, below: u64, span: u64, risk: u64)

@@ -1,7 +1,7 @@
 // Laying out the rows of a zone's plan: a row, then its right part, then its left part.
 use crate::fill;
 use choice::Step;
-use walk::fields;
+use rows::fields;
 ghost use Prim.Native.Nat.{ℕ, _+_, _-_, _*_, _^_, _<_};
 ghost use mathlib.Core.Bool.{true};
 ghost use mathlib.Core.List.{[], _∷_};
@@ -9,8 +9,8 @@ ghost use mathlib.Core.Path.{_≡_};
 ghost use lib.ListN.{length, getD};
 ghost use lib.Seq.{sets};
 ghost use Rattle.rules.specs.Table.{rowCount};
-ghost use Rattle.walk.specs.Rows.{nextAt, doneAt};
-ghost use Rattle.walk.specs.Lines.{line};
+ghost use Rattle.rows.specs.Rows.{nextAt, doneAt};
+ghost use Rattle.rows.specs.Lines.{line};
 ghost use Rattle.laying.specs.Laying.{Given, SizedTo, sideOf, allRows, Laying, Laid};
 
 fn narrow(number: usize) -> u8

@@ -15,7 +15,7 @@ ghost use Rattle.rules.specs.ListCalls.{windowRefusal, ListMade};
 ghost use Rattle.laws.specs.Plans.{count};
 ghost use Rattle.laws.specs.Sound.{Sound};
 ghost use Rattle.choice.specs.Steps.{Numbered, rootPlan};
-ghost use Rattle.walk.specs.Rows.{SoundRows};
+ghost use Rattle.rows.specs.Rows.{SoundRows};
 ghost use Rattle.walk.specs.Tracks.{walkAt, startOf};
 ghost use Rattle.list.specs.Words.{Measured};
 

@@ -18,12 +18,12 @@ use Rattle.ground.proofs.Writes.{sets-append}
 use Rattle.rules.specs.declared.Product.{Product}
 use Rattle.rules.specs.ListWords.{wordsOf}
 use Rattle.laws.proofs.Words.{words-length}
+use Rattle.rows.specs.Rows.{kindAt, leftAt, nextAt, doneAt, belowAt, spanAt, planIn, Later, SoundLinks}
+use Rattle.rows.specs.Parts.{stale}
+use Rattle.rows.specs.Lines.{line}
 use Rattle.walk.specs.declared.Place.{Place}
-use Rattle.walk.specs.Rows.{kindAt, leftAt, nextAt, doneAt, belowAt, spanAt, planIn, Later, SoundLinks}
-use Rattle.walk.specs.Walks.{stale}
-use Rattle.walk.specs.Lines.{line}
 use Rattle.walk.specs.Tracks.{agedAt, narrowed, openAt, rightOf, onwardOf, asideOf, endOf, walkTo, walkAt, placesOf, Held, stepsLeft, Goes, Put}
-use Rattle.walk.proofs.Writes.{sets-stands, sets-before, stands-first}
+use Rattle.rows.proofs.Writes.{sets-stands, sets-before, stands-first}
 
 both-true : (a b : Bool) → (a && b) ≡ true → a ≡ true
 both-true true b h = refl

@@ -7,8 +7,8 @@ use mathlib.Core.Path.{_≡_, refl, sym, ap, subst, _∙_}
 use lib.ListN.{length, length-append}
 use lib.Pow.{pow-pos}
 use Rattle.rules.specs.declared.Product.{Product}
+use Rattle.rows.specs.Rows.{SoundLinks}
 use Rattle.walk.specs.declared.Place.{Place}
-use Rattle.walk.specs.Rows.{SoundLinks}
 use Rattle.walk.specs.Tracks.{openAt, endOf, walkAt, placesOf, Held, stepsLeft, Goes, Put}
 use Rattle.walk.proofs.Tracks.{walk-shut, length-places, places-more, put-none, put-then}
 

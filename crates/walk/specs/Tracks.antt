@@ -10,9 +10,9 @@ use lib.Seq.{sets}
 use Rattle.ground.specs.Tests.{if_then_else_}
 use Rattle.rules.specs.declared.Product.{Product}
 use Rattle.rules.specs.ListWords.{wordsOf, placeOf}
+use Rattle.rows.specs.Parts.{stale}
+use Rattle.rows.specs.Rows.{kindAt, leftAt, nextAt, doneAt, belowAt, spanAt, planIn}
 use Rattle.walk.specs.declared.Place.{Place}
-use Rattle.walk.specs.Walks.{stale}
-use Rattle.walk.specs.Rows.{kindAt, leftAt, nextAt, doneAt, belowAt, spanAt, planIn}
 
 module _ (links masks : List ℕ) where
   -- the right part of a `both` that is done, just before its left part, holds a repeat

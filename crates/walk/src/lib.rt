@@ -1,7 +1,5 @@
 // The list of a zone by one walk over the rows of its plan. The walk carries what is chosen so far and what that reaches, and goes into no part
 // where nothing can be listed.
-pub mod fields;
-mod repeats;
 mod steps;
 
 pub use steps::walk;

@@ -1,8 +1,7 @@
 // The walk: from place to place in the order of the choices, with the right parts that are still to be walked put aside.
 use crate::Place;
 use crate::Stop;
-use crate::fields;
-use crate::repeats;
+use rows::fields;
 ghost use Prim.Native.Nat.{_+_, _*_, _≤_, _<_};
 ghost use mathlib.Core.Bool.{true, false};
 ghost use mathlib.Core.List.{_∷_};
@@ -11,7 +10,7 @@ ghost use lib.Dec.{eqb};
 ghost use lib.ListN.{length};
 ghost use Rattle.ground.specs.Tests.{if_then_else_};
 ghost use Rattle.rules.specs.ListWords.{placeOf};
-ghost use Rattle.walk.specs.Rows.{leftAt, InRows, SoundRows};
+ghost use Rattle.rows.specs.Rows.{leftAt, InRows, SoundRows};
 ghost use Rattle.walk.specs.Tracks.{agedAt, openAt, onwardOf, asideOf, endOf, walkAt, startOf, placesOf, Held, Goes, Put};
 
 // The right part that is done just before this place holds a repeat.
@@ -23,7 +22,7 @@ fn aged(links: &[u8; 508], masks: &[u64; 381], at: Place) -> bool
     if done == 0 {
         return false;
     }
-    repeats::stale_at(links, masks, done, at.plain, at.cuts, at.reach)
+    rows::stale_at(links, masks, done, at.plain, at.cuts, at.reach)
 }
 
 // The walk goes on from here: it is not at the end, what is chosen is in reach, and the part that is done holds no repeat.
@@ -177,7 +176,7 @@ fn finish(
     if at.plain & at.reach != at.plain {
         return count;
     }
-    if repeats::stale_at(links, masks, 0, at.plain, at.cuts, at.reach) {
+    if rows::stale_at(links, masks, 0, at.plain, at.cuts, at.reach) {
         return count;
     }
     if keeps {

@@ -5,7 +5,7 @@ use mathlib.Core.Path.{ap, _∙_}
 use lib.Bits.{bitOr}
 use lib.Seq.{sets}
 use Rattle.ground.specs.Tests.{if_then_else_}
-use Rattle.walk.specs.Rows.{belowAt, spanAt, riskAt}
+use Rattle.rows.specs.Rows.{belowAt, spanAt, riskAt}
 use borrow.Author.Needs.{needs}
 use Rattle.laying.proofs.fill.fill_either.Statement.{statement}
 use Rattle.laying.proofs.fill.fill_either.Tie as tie

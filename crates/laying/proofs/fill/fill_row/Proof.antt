@@ -2,7 +2,7 @@
 use Prim.Native.Nat.{_+_, _<_}
 use native.Mathlib.Omega.{arith}
 use mathlib.Core.Path.{_∙_}
-use Rattle.walk.specs.Rows.{leftAt}
+use Rattle.rows.specs.Rows.{leftAt}
 use Rattle.laying.proofs.Filling.{leaf-filled, either-filled, both-filled}
 use borrow.Author.Needs.{needs}
 use Rattle.laying.proofs.fill.fill_row.Statement.{statement}

@@ -1,6 +1,6 @@
 -- The masks of a row are written. Assumes nothing.
 use Prim.Native.Nat.{_*_}
-use Rattle.walk.proofs.Writes.{three-stores}
+use Rattle.rows.proofs.Writes.{three-stores}
 use borrow.Author.Needs.{needs}
 use Rattle.laying.proofs.fill.put_masks.Statement.{statement}
 use Rattle.laying.proofs.fill.put_masks.Tie as tie

@@ -6,7 +6,7 @@ use mathlib.Core.Path.{_≡_, sym, ap, subst, _∙_}
 use borrow.Author.Needs.{needs}
 use Rattle.rules.specs.Table.{rowCount}
 use Rattle.choice.specs.Steps.{planAt}
-use Rattle.walk.specs.Lines.{rowsOf}
+use Rattle.rows.specs.Lines.{rowsOf}
 use Rattle.laying.specs.Laying.{allRows}
 use Rattle.laying.proofs.Whole.{laying-none, links-sound, laid}
 use Rattle.laying.proofs.making.lay.Statement.{statement}

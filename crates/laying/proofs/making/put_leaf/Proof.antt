@@ -2,8 +2,8 @@
 use Prim.Native.Nat.{ℕ, _*_}
 use mathlib.Core.Path.{ap, _∙_}
 use lib.Seq.{sets}
-use Rattle.walk.specs.Rows.{nextAt, doneAt}
-use Rattle.walk.specs.Lines.{line}
+use Rattle.rows.specs.Rows.{nextAt, doneAt}
+use Rattle.rows.specs.Lines.{line}
 use borrow.Author.Needs.{needs}
 use Rattle.laying.proofs.making.put_leaf.Statement.{statement}
 use Rattle.laying.proofs.making.put_leaf.Tie as tie

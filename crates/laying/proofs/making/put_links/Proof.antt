@@ -1,6 +1,6 @@
 -- The links of a row are written. Assumes nothing.
 use Prim.Native.Nat.{_*_}
-use Rattle.walk.proofs.Writes.{four-stores}
+use Rattle.rows.proofs.Writes.{four-stores}
 use borrow.Author.Needs.{needs}
 use Rattle.laying.proofs.making.put_links.Statement.{statement}
 use Rattle.laying.proofs.making.put_links.Tie as tie

@@ -2,8 +2,8 @@
 use Prim.Native.Nat.{_+_, _*_}
 use mathlib.Core.Path.{_∙_}
 use lib.Seq.{sets}
-use Rattle.walk.specs.Rows.{nextAt, doneAt}
-use Rattle.walk.specs.Lines.{line}
+use Rattle.rows.specs.Rows.{nextAt, doneAt}
+use Rattle.rows.specs.Lines.{line}
 use Rattle.laying.specs.Laying.{sideOf}
 use borrow.Author.Needs.{needs}
 use Rattle.laying.proofs.making.put_pair.Statement.{statement}

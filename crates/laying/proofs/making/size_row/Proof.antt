@@ -8,7 +8,7 @@ use lib.ListN.{getD}
 use Rattle.laws.specs.Plans.{either, both}
 use Rattle.choice.specs.Steps.{planAt}
 use Rattle.choice.proofs.Steps.{as-step}
-use Rattle.walk.specs.Lines.{rowsOf}
+use Rattle.rows.specs.Lines.{rowsOf}
 use Rattle.laying.proofs.Sizes.{sized-more, rows-one, rows-one-out, rows-either, rows-both, few-rows}
 use Rattle.laying.proofs.making.size_row.Statement.{statement}
 use Rattle.laying.proofs.making.size_row.Tie as tie

@@ -4,10 +4,10 @@ use native.Mathlib.Omega.{arith}
 use mathlib.Core.List.{List}
 use mathlib.Core.Path.{ap, _∙_}
 use lib.Seq.{length-sets}
-use Rattle.walk.specs.Lines.{line}
+use Rattle.rows.specs.Lines.{line}
 use Rattle.walk.specs.Tracks.{placesOf}
 use Rattle.walk.proofs.Tracks.{places-aside}
-use Rattle.walk.proofs.Writes.{four-stores}
+use Rattle.rows.proofs.Writes.{four-stores}
 use borrow.Author.Needs.{needs}
 use Rattle.walk.proofs.steps.put_aside.Statement.{statement}
 use Rattle.walk.proofs.steps.put_aside.Tie as tie

@@ -4,11 +4,11 @@ use mathlib.Core.Bool.{Bool, _&&_}
 use mathlib.Core.Path.{sym, ap, _∙_}
 use lib.Bits.{bitAnd}
 use Rattle.laws.specs.Plans.{blank}
-use Rattle.walk.specs.Walks.{clear}
-use Rattle.walk.specs.Rows.{planIn}
+use Rattle.rows.specs.Parts.{clear}
+use Rattle.rows.specs.Rows.{planIn}
 use borrow.Author.Needs.{needs}
-use Rattle.walk.proofs.repeats.hidden.Statement.{statement}
-use Rattle.walk.proofs.repeats.hidden.Tie as tie
+use Rattle.rows.proofs.repeats.hidden.Statement.{statement}
+use Rattle.rows.proofs.repeats.hidden.Tie as tie
 
 below-requires : tie.Need-below-requires
 below-requires c κs = search needs

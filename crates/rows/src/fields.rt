@@ -1,7 +1,7 @@
 // The fields of a row: four links and three masks.
 ghost use Prim.Native.Nat.{_+_, _*_, _<_};
 ghost use mathlib.Core.Path.{_≡_};
-ghost use Rattle.walk.specs.Rows.{kindAt, leftAt, nextAt, doneAt, belowAt, spanAt, riskAt};
+ghost use Rattle.rows.specs.Rows.{kindAt, leftAt, nextAt, doneAt, belowAt, spanAt, riskAt};
 
 pub fn wide(link: u8) -> usize
     ensures { λ r. ⌜ r ≡ link ⌝ }

@@ -2,22 +2,22 @@
 use Prim.Native.Nat.{ℕ, _-_, _<_}
 use native.Mathlib.Omega.{arith}
 use mathlib.Core.Path.{sym, ap, _∙_}
-use Rattle.walk.specs.Walks.{safe}
-use Rattle.walk.proofs.Rows.{in-few, inner-from, asks-left, asks-right, stale-safe, stale-leaf, stale-left, stale-hidden, stale-right, stale-in-right, stale-in-left}
+use Rattle.rows.specs.Parts.{safe}
+use Rattle.rows.proofs.Rows.{in-few, inner-from, asks-left, asks-right, stale-safe, stale-leaf, stale-left, stale-hidden, stale-right, stale-in-right, stale-in-left}
 use borrow.Fn.Kinds.{In}
 use borrow.Fn.PlainCycle.{Measures, is, falls, and}
-use Rattle.walk.proofs.repeats.stale_at.Reads as stale-at
-use Rattle.walk.proofs.repeats.stale_at.Kinds as stale-at-kinds
-use Rattle.walk.proofs.repeats.+stale_at.Lts-stale_at as stale-at-lts
-use Rattle.walk.proofs.fields.below.Reads as below-reads
-use Rattle.walk.proofs.fields.kind.Reads as kind-reads
-use Rattle.walk.proofs.fields.left.Reads as left-reads
-use Rattle.walk.proofs.fields.risk.Reads as risk-reads
-use Rattle.walk.proofs.repeats.clear_of.Reads as clear-of-reads
-use Rattle.walk.proofs.repeats.hidden.Reads as hidden-reads
-use Rattle.walk.proofs.repeats.safe_in.Reads as safe-in-reads
-use Rattle.walk.proofs.repeats.+stale_at.{statement}
-use Rattle.walk.proofs.repeats.+stale_at.Tie.{close}
+use Rattle.rows.proofs.repeats.stale_at.Reads as stale-at
+use Rattle.rows.proofs.repeats.stale_at.Kinds as stale-at-kinds
+use Rattle.rows.proofs.repeats.+stale_at.Lts-stale_at as stale-at-lts
+use Rattle.rows.proofs.fields.below.Reads as below-reads
+use Rattle.rows.proofs.fields.kind.Reads as kind-reads
+use Rattle.rows.proofs.fields.left.Reads as left-reads
+use Rattle.rows.proofs.fields.risk.Reads as risk-reads
+use Rattle.rows.proofs.repeats.clear_of.Reads as clear-of-reads
+use Rattle.rows.proofs.repeats.hidden.Reads as hidden-reads
+use Rattle.rows.proofs.repeats.safe_in.Reads as safe-in-reads
+use Rattle.rows.proofs.repeats.+stale_at.{statement}
+use Rattle.rows.proofs.repeats.+stale_at.Tie.{close}
 
 abbrev μ-stale-at : Measures 2 stale-at-kinds.ps ℕ
 μ-stale-at κs a = 127 - a .1 .1 .0

@@ -6,7 +6,7 @@ use mathlib.Core.List.{List, [], _∷_, _++_}
 use mathlib.Core.Path.{_≡_, refl, sym, ap, _∙_}
 use lib.ListN.{length, getD, set, take, drop, length-append, List·getD-append}
 use lib.Seq.{sets, sets-eq, getD-append-add, getD-set-other, length-take-le}
-use Rattle.walk.specs.Lines.{line, Stands}
+use Rattle.rows.specs.Lines.{line, Stands}
 
 -- three stores, or four, are one write
 pub three-stores : (l : List ℕ) (i a b c : ℕ) → set (set (set l i a) (i + 1) b) (i + 2) c ≡ sets l i (a ∷ b ∷ c ∷ [])

@@ -9,8 +9,8 @@ use lib.Bits.{bitAnd}
 use lib.Dec.{eqb}
 use Rattle.ground.specs.Tests.{if_then_else_}
 use Rattle.laws.specs.Plans.{Plan, with-it, without, either, both, mask, blank}
-use Rattle.walk.specs.Walks.{risk, clear, safe, stale}
-use Rattle.walk.specs.Rows.{kindAt, leftAt, belowAt, riskAt, shape, planTo, planIn, Inner, Later, SoundLinks, SoundRows, InRows}
+use Rattle.rows.specs.Parts.{risk, clear, safe, stale}
+use Rattle.rows.specs.Rows.{kindAt, leftAt, belowAt, riskAt, shape, planTo, planIn, Inner, Later, SoundLinks, SoundRows, InRows}
 
 or-flip : (a b : Bool) → (a || b) ≡ (b || a)
 or-flip true true = refl

@@ -4,17 +4,17 @@ use native.Mathlib.Omega.{arith}
 use mathlib.Core.Path.{sym, ap, _∙_}
 use lib.Bits.{bitAnd}
 use lib.Dec.{eqb}
-use Rattle.walk.proofs.Rows.{in-few, inner-by, asks-left, asks-right, blank-with, blank-without, blank-by-left, blank-by-right, full-left, blank-both-parts}
+use Rattle.rows.proofs.Rows.{in-few, inner-by, asks-left, asks-right, blank-with, blank-without, blank-by-left, blank-by-right, full-left, blank-both-parts}
 use borrow.Fn.Kinds.{In}
 use borrow.Fn.PlainCycle.{Measures, is, falls, and}
-use Rattle.walk.proofs.repeats.blank_at.Reads as blank-at
-use Rattle.walk.proofs.repeats.blank_at.Kinds as blank-at-kinds
-use Rattle.walk.proofs.repeats.+blank_at.Lts-blank_at as blank-at-lts
-use Rattle.walk.proofs.fields.below.Reads as below-reads
-use Rattle.walk.proofs.fields.kind.Reads as kind-reads
-use Rattle.walk.proofs.fields.left.Reads as left-reads
-use Rattle.walk.proofs.repeats.+blank_at.{statement}
-use Rattle.walk.proofs.repeats.+blank_at.Tie.{close}
+use Rattle.rows.proofs.repeats.blank_at.Reads as blank-at
+use Rattle.rows.proofs.repeats.blank_at.Kinds as blank-at-kinds
+use Rattle.rows.proofs.repeats.+blank_at.Lts-blank_at as blank-at-lts
+use Rattle.rows.proofs.fields.below.Reads as below-reads
+use Rattle.rows.proofs.fields.kind.Reads as kind-reads
+use Rattle.rows.proofs.fields.left.Reads as left-reads
+use Rattle.rows.proofs.repeats.+blank_at.{statement}
+use Rattle.rows.proofs.repeats.+blank_at.Tie.{close}
 
 abbrev μ-blank-at : Measures 2 blank-at-kinds.ps ℕ
 μ-blank-at κs a = 127 - a .1 .1 .0

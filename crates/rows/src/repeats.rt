@@ -5,8 +5,8 @@ ghost use mathlib.Core.Bool.{true, _&&_};
 ghost use mathlib.Core.Path.{_≡_};
 ghost use lib.Bits.{bitAnd};
 ghost use Rattle.laws.specs.Plans.{blank};
-ghost use Rattle.walk.specs.Walks.{clear, safe, stale};
-ghost use Rattle.walk.specs.Rows.{belowAt, planIn, InRows};
+ghost use Rattle.rows.specs.Parts.{clear, safe, stale};
+ghost use Rattle.rows.specs.Rows.{belowAt, planIn, InRows};
 
 // No primitive of a set is chosen.
 pub fn clear_of(set: u64, plain: u64, cuts: u64) -> bool
