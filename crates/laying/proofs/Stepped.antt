@@ -17,15 +17,16 @@ use Rattle.rules.specs.Table.{rowCount, rowAt, primitives}
 use Rattle.laws.specs.Plans.{Plan, with-it, without, either, both, mask}
 use Rattle.laws.specs.Reach.{sharing}
 use Rattle.choice.specs.Steps.{planAt}
-use Rattle.rows.specs.Parts.{span}
+use Rattle.rows.specs.Masks.{span}
 use Rattle.rows.specs.Rows.{kindAt, leftAt, nextAt, doneAt}
-use Rattle.rows.specs.Lines.{rowsOf, line, lines, Stands}
-use Rattle.laying.specs.Laying.{Given, SizedTo, sideOf, planOf, allRows, allLines, Laying}
+use Rattle.rows.specs.Lines.{rowsOf, line, lines, sideOf, Stands}
+use Rattle.sizing.specs.Sizes.{Given, SizedTo}
+use Rattle.laying.specs.Laying.{planOf, allRows, allLines, Laying}
 use Rattle.rows.proofs.Writes.{stands-left}
 use Rattle.laying.proofs.Lines.{Pair, pair-of, some-row}
 use Rattle.laying.proofs.Laying.{First, first-of, side-by, within-all, laid-leaf, laid-pair}
 use Rattle.laying.proofs.Leaves.{leaf-row, leaf-number, leaf-span}
-use Rattle.laying.proofs.Sizes.{rows-one, rows-one-out, rows-either, rows-both, few-rows}
+use Rattle.sizing.proofs.Sizes.{rows-one, rows-one-out, rows-either, rows-both, few-rows}
 
 module _ {t : List ℤ} {bits links masks : List ℕ} {seen x : ℕ} (G : Given t bits) (L : Laying t seen links masks x) (l : x < allRows t) where
   pub few-all : allRows t ≤ 127

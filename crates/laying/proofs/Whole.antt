@@ -18,10 +18,11 @@ use Rattle.laws.specs.Sound.{Sound}
 use Rattle.choice.specs.Steps.{rootPlan}
 use Rattle.rows.specs.Rows.{kindAt, leftAt, SoundLinks}
 use Rattle.rows.specs.Lines.{line, Stands}
-use Rattle.laying.specs.Laying.{allRows, allLines, leafPlan, MasksOf, LeavesTo, Fills, Comes, Laying, Laid}
+use Rattle.filling.specs.Filling.{leafPlan, MasksOf, LeavesTo, Fills}
+use Rattle.laying.specs.Laying.{allRows, allLines, Comes, Laying, Laid}
 use Rattle.laying.proofs.Linked.{rows-survivors}
 use Rattle.laying.proofs.Lines.{length-lines, lines-plan, lines-sound, lines-tied}
-use Rattle.laying.proofs.Sizes.{plan-apart, few-rows}
+use Rattle.sizing.proofs.Sizes.{plan-apart, few-rows}
 use Rattle.rows.proofs.Writes.{sets-stands}
 
 module _ (t : List ℤ) (S : Sound t) where

@@ -1,3 +1,3 @@
-pub mod Parts
+pub mod Masks
 pub mod Rows
 pub mod Lines

@@ -8,7 +8,7 @@ use lib.Dec.{eqb}
 use lib.ListN.{getD}
 use Rattle.ground.specs.Tests.{if_then_else_}
 use Rattle.laws.specs.Plans.{Plan, with-it, without, either, both, mask}
-use Rattle.rows.specs.Parts.{risk}
+use Rattle.rows.specs.Masks.{risk}
 
 module _ (links : List ℕ) (row : ℕ) where
   abbrev pub kindAt : ℕ

@@ -9,6 +9,13 @@ pub fn wide(link: u8) -> usize
     link as usize
 }
 
+pub fn narrow(number: usize) -> u8
+    requires { ⌜ number < 256 ⌝ }
+    ensures { λ r. ⌜ r ≡ number ⌝ }
+{
+    number as u8
+}
+
 // What a row is: 0 with a primitive, 1 without one, 2 either of two parts, 3 both.
 pub fn kind(links: &[u8; 508], row: usize) -> usize
     requires { ⌜ row < 127 ⌝ }

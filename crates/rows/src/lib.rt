@@ -1,5 +1,8 @@
-// The rows of a plan as they lie in two arrays, and whether what is chosen of a row repeats an earlier choice.
+// The rows of a plan as they lie in two arrays, read and put.
 pub mod fields;
-mod repeats;
+mod puts;
 
-pub use repeats::stale_at;
+pub use puts::put_leaf;
+pub use puts::put_links;
+pub use puts::put_masks;
+pub use puts::put_pair;

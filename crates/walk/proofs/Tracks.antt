@@ -19,8 +19,8 @@ use Rattle.rules.specs.declared.Product.{Product}
 use Rattle.rules.specs.ListWords.{wordsOf}
 use Rattle.laws.proofs.Words.{words-length}
 use Rattle.rows.specs.Rows.{kindAt, leftAt, nextAt, doneAt, belowAt, spanAt, planIn, Later, SoundLinks}
-use Rattle.rows.specs.Parts.{stale}
 use Rattle.rows.specs.Lines.{line}
+use Rattle.repeats.specs.Repeats.{stale}
 use Rattle.walk.specs.declared.Place.{Place}
 use Rattle.walk.specs.Tracks.{agedAt, narrowed, openAt, rightOf, onwardOf, asideOf, endOf, walkTo, walkAt, placesOf, Held, stepsLeft, Goes, Put}
 use Rattle.rows.proofs.Writes.{sets-stands, sets-before, stands-first}

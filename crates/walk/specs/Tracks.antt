@@ -10,8 +10,8 @@ use lib.Seq.{sets}
 use Rattle.ground.specs.Tests.{if_then_else_}
 use Rattle.rules.specs.declared.Product.{Product}
 use Rattle.rules.specs.ListWords.{wordsOf, placeOf}
-use Rattle.rows.specs.Parts.{stale}
 use Rattle.rows.specs.Rows.{kindAt, leftAt, nextAt, doneAt, belowAt, spanAt, planIn}
+use Rattle.repeats.specs.Repeats.{stale}
 use Rattle.walk.specs.declared.Place.{Place}
 
 module _ (links masks : List ℕ) where

@@ -8,7 +8,8 @@ use Rattle.ground.specs.Tests.{if_then_else_}
 use Rattle.rules.specs.declared.Product.{Product}
 use Rattle.rules.specs.Choices.{joined}
 use Rattle.laws.specs.Plans.{Plan, with-it, without, either, both, only, except}
-use Rattle.rows.specs.Parts.{stale, span}
+use Rattle.rows.specs.Masks.{span}
+use Rattle.repeats.specs.Repeats.{stale}
 
 -- some chosen primitive is out of reach
 abbrev pub dead : Product → ℕ → Bool

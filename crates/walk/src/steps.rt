@@ -22,7 +22,7 @@ fn aged(links: &[u8; 508], masks: &[u64; 381], at: Place) -> bool
     if done == 0 {
         return false;
     }
-    rows::stale_at(links, masks, done, at.plain, at.cuts, at.reach)
+    repeats::stale_at(links, masks, done, at.plain, at.cuts, at.reach)
 }
 
 // The walk goes on from here: it is not at the end, what is chosen is in reach, and the part that is done holds no repeat.
@@ -176,7 +176,7 @@ fn finish(
     if at.plain & at.reach != at.plain {
         return count;
     }
-    if rows::stale_at(links, masks, 0, at.plain, at.cuts, at.reach) {
+    if repeats::stale_at(links, masks, 0, at.plain, at.cuts, at.reach) {
         return count;
     }
     if keeps {
