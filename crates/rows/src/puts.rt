@@ -1,5 +1,5 @@
 // Rows put into the two arrays: a leaf, or a row with two parts that are to come.
-use crate::fields;
+use crate::fields::narrow;
 ghost use Prim.Native.Nat.{ℕ, _+_, _*_, _^_, _<_};
 ghost use mathlib.Core.List.{[], _∷_};
 ghost use mathlib.Core.Path.{_≡_};
@@ -63,16 +63,9 @@ pub fn put_pair(
 {
     let next = links[at * 4 + 2];
     let done = links[at * 4 + 3];
-    put_links(links, at, kind, fields::narrow(left), next, done);
-    put_links(links, at + 1, side(rhs_in), fields::narrow(rhs), follows, 0);
-    put_links(
-        links,
-        left,
-        side(lhs_in),
-        fields::narrow(lhs),
-        next,
-        precedes,
-    );
+    put_links(links, at, kind, narrow(left), next, done);
+    put_links(links, at + 1, side(rhs_in), narrow(rhs), follows, 0);
+    put_links(links, left, side(lhs_in), narrow(lhs), next, precedes);
 }
 
 // The links and the masks of a leaf.
