@@ -10,10 +10,11 @@ use lib.Count.{ones-le}
 use lib.IntN.{ℤ}
 use lib.ListN.{length, getD, set, length-set}
 use lib.Seq.{getD-set-same, getD-set-other}
+use Rattle.ground.specs.Tests.{if_then_else_}
 use Rattle.rules.specs.Table.{rowCount, primitives}
 use Rattle.rules.specs.Tree.{Tree, solid, union, inter, diff, treeAt}
 use Rattle.rules.specs.Choices.{inOf, outOf}
-use Rattle.laws.specs.Plans.{Plan, with-it, without, either, both, plan, mask, Apart}
+use Rattle.laws.specs.Plans.{Plan, with-it, without, either, both, plan, mask}
 use Rattle.laws.specs.Sound.{Sound}
 use Rattle.laws.proofs.Apart.{table-apart, mask-in-table, few-primitives}
 use Rattle.laws.proofs.Expansion.{leaves, leaves-ones}
@@ -43,22 +44,16 @@ sized-more {t} {sizes} {row} {n} l s e = record {
       (eq-or-lt-of-le (omega arith));
 }
 
--- by its parts
-pub rows-one : {p : Plan} {i : ℕ} → p ≡ with-it i → 1 ≡ rowsOf p
+-- a leaf takes one row, and two parts take one more than they do by themselves
+pub rows-leaf : (chosen : Bool) (i : ℕ) {p : Plan} → p ≡ if_then_else_ chosen (with-it i) (without i) → 1 ≡ rowsOf p
 unfolding rowsOf
-rows-one e = sym (ap rowsOf e)
+rows-leaf true i e = sym (ap rowsOf e)
+rows-leaf false i e = sym (ap rowsOf e)
 
-pub rows-one-out : {p : Plan} {i : ℕ} → p ≡ without i → 1 ≡ rowsOf p
+pub rows-pair : (one : Bool) (a b : Plan) {p : Plan} {x y : ℕ} → p ≡ if_then_else_ one (either a b) (both a b) → x ≡ rowsOf a → y ≡ rowsOf b → x + y + 1 ≡ rowsOf p
 unfolding rowsOf
-rows-one-out e = sym (ap rowsOf e)
-
-pub rows-either : {p a b : Plan} {x y : ℕ} → p ≡ either a b → x ≡ rowsOf a → y ≡ rowsOf b → x + y + 1 ≡ rowsOf p
-unfolding rowsOf
-rows-either e h k = (λ i. h i + k i + 1) ∙ sym (ap rowsOf e)
-
-pub rows-both : {p a b : Plan} {x y : ℕ} → p ≡ both a b → x ≡ rowsOf a → y ≡ rowsOf b → x + y + 1 ≡ rowsOf p
-unfolding rowsOf
-rows-both e h k = (λ i. h i + k i + 1) ∙ sym (ap rowsOf e)
+rows-pair true a b e h k = (λ i. h i + k i + 1) ∙ sym (ap rowsOf e)
+rows-pair false a b e h k = (λ i. h i + k i + 1) ∙ sym (ap rowsOf e)
 
 rows-leaves : (p : Plan) → rowsOf p + 1 ≡ 2 * leaves p
 unfolding rowsOf leaves
@@ -68,10 +63,6 @@ rows-leaves (either a b) = omega (arith, rows-leaves a, rows-leaves b)
 rows-leaves (both a b) = omega (arith, rows-leaves a, rows-leaves b)
 
 module _ (t : List ℤ) (S : Sound t) (row : ℕ) (l : row < rowCount t) (within : Bool) where
-  pub plan-apart : Apart (planAt t row within)
-  unfolding planAt
-  plan-apart = table-apart t S row l (sideOf within)
-
   pub few-rows : rowsOf (planAt t row within) ≤ 127
   unfolding planAt
   few-rows =

@@ -2,15 +2,8 @@
 // where nothing can be listed.
 mod steps;
 
+use places::Place;
 pub use steps::walk;
-
-// Where a walk stands: the row that it comes to, what is chosen so far, and what is still in reach.
-pub struct Place {
-    pub row: usize,
-    pub plain: u64,
-    pub cuts: u64,
-    pub reach: u64,
-}
 
 // Where a walk stops, and how many places are put aside then.
 pub struct Stop {

@@ -1,6 +1,7 @@
 -- The row that comes now is laid out. Assumes nothing.
 use Prim.Native.Nat.{ℕ, _<_}
 use native.Mathlib.Omega.{arith}
+use mathlib.Core.Bool.{true, false}
 use mathlib.Core.Path.{_≡_}
 use borrow.Author.Needs.{needs}
 use lib.Dec.{eqb}
@@ -9,7 +10,7 @@ use Rattle.laws.specs.Plans.{Plan}
 use Rattle.choice.specs.declared.Step.{Step}
 use Rattle.choice.specs.Steps.{planAt, IsStep}
 use Rattle.choice.proofs.Steps.{as-step}
-use Rattle.laying.proofs.Stepped.{x-few, row-in, either-fits, both-fits, laid-with, laid-without, laid-either, laid-both}
+use Rattle.laying.proofs.Stepped.{x-few, row-in, pair-fits, laid-with, laid-without, laid-either, laid-both}
 use Rattle.laying.proofs.lay_row.Statement.{statement}
 use Rattle.laying.proofs.lay_row.Tie as tie
 
@@ -95,7 +96,7 @@ add-left-2 c =
     let m = c .before .before .before .before .before .before in
     let s = m .before .before .before .before .before in
     let N = stepped m (c .before .before .before .before .step3 .given .1) in
-    let w = either-fits (s .pre .0 .0) (s .pre .1 .0) (s .pre .1 .1) (m .before .before .before .kind .ensures) (m .before .left .ensures) (s .pre .0 .1) _ _ (N .1) (N .2) (c .wide .ensures) (N .0) in
+    let w = pair-fits (s .pre .0 .0) (s .pre .1 .0) (s .pre .1 .1) (m .before .before .before .kind .ensures) (m .before .left .ensures) (s .pre .0 .1) _ _ (N .1) (N .2) (c .wide .ensures) true (N .0) in
     record { fits = omega (arith, w .1) }
 
 put-pair-requires : tie.Need-put-pair-requires
@@ -103,7 +104,7 @@ put-pair-requires c κs =
     let m = c .before .before .before .before .before .before .before in
     let s = m .before .before .before .before .before in
     let N = stepped m (c .before .before .before .before .before .step3 .given .1) in
-    let w = either-fits (s .pre .0 .0) (s .pre .1 .0) (s .pre .1 .1) (m .before .before .before .kind .ensures) (m .before .left .ensures) (s .pre .0 .1) _ _ (N .1) (N .2) (c .before .wide .ensures) (N .0) in
+    let w = pair-fits (s .pre .0 .0) (s .pre .1 .0) (s .pre .1 .1) (m .before .before .before .kind .ensures) (m .before .left .ensures) (s .pre .0 .1) _ _ (N .1) (N .2) (c .before .wide .ensures) true (N .0) in
     (w, (omega (arith, N .1, N .2, table-few s, read-in m), omega (arith, N .1, N .2, table-few s, read-in m)))
 
 enum-known-step-4 : tie.Need-enum-known-step-4
@@ -127,7 +128,7 @@ add-left-4 c =
     let m = c .before .before .before .before .before in
     let s = m .before .before .before .before .before in
     let N = stepped m (c .before .before .before .step4 .given .1) in
-    let w = both-fits (s .pre .0 .0) (s .pre .1 .0) (s .pre .1 .1) (m .before .before .before .kind .ensures) (m .before .left .ensures) (s .pre .0 .1) _ _ (N .1) (N .2) (c .wide2 .ensures) (N .0) in
+    let w = pair-fits (s .pre .0 .0) (s .pre .1 .0) (s .pre .1 .1) (m .before .before .before .kind .ensures) (m .before .left .ensures) (s .pre .0 .1) _ _ (N .1) (N .2) (c .wide2 .ensures) false (N .0) in
     record { fits = omega (arith, w .1) }
 
 narrow-requires : tie.Need-narrow-requires
@@ -135,7 +136,7 @@ narrow-requires c κs =
     let m = c .before .before .before .before .before .before in
     let s = m .before .before .before .before .before in
     let N = stepped m (c .before .before .before .before .step4 .given .1) in
-    let w = both-fits (s .pre .0 .0) (s .pre .1 .0) (s .pre .1 .1) (m .before .before .before .kind .ensures) (m .before .left .ensures) (s .pre .0 .1) _ _ (N .1) (N .2) (c .before .wide2 .ensures) (N .0) in
+    let w = pair-fits (s .pre .0 .0) (s .pre .1 .0) (s .pre .1 .1) (m .before .before .before .kind .ensures) (m .before .left .ensures) (s .pre .0 .1) _ _ (N .1) (N .2) (c .before .wide2 .ensures) false (N .0) in
     omega (arith, w .1)
 
 add-narrow : tie.Need-add-narrow
@@ -149,7 +150,7 @@ put-pair-requires-2 c κs =
     let m = c .before .before .before .before .before .before .before .before in
     let s = m .before .before .before .before .before in
     let N = stepped m (c .before .before .before .before .before .before .step4 .given .1) in
-    let w = both-fits (s .pre .0 .0) (s .pre .1 .0) (s .pre .1 .1) (m .before .before .before .kind .ensures) (m .before .left .ensures) (s .pre .0 .1) _ _ (N .1) (N .2) (c .before .before .before .wide2 .ensures) (N .0) in
+    let w = pair-fits (s .pre .0 .0) (s .pre .1 .0) (s .pre .1 .1) (m .before .before .before .kind .ensures) (m .before .left .ensures) (s .pre .0 .1) _ _ (N .1) (N .2) (c .before .before .before .wide2 .ensures) false (N .0) in
     (w, (omega (arith, N .1, N .2, table-few s, read-in m), omega (arith, N .1, N .2, table-few s, read-in m)))
 
 returns : tie.Need-returns

@@ -1,8 +1,8 @@
 -- The place that is walked next. Assumes nothing.
-use Rattle.walk.proofs.Tracks.{onward-with, onward-without, onward-part}
+use Rattle.places.proofs.Places.{onward-with, onward-without, onward-part}
 use borrow.Author.Needs.{needs}
-use Rattle.walk.proofs.steps.onward.Statement.{statement}
-use Rattle.walk.proofs.steps.onward.Tie as tie
+use Rattle.places.proofs.onward.Statement.{statement}
+use Rattle.places.proofs.onward.Tie as tie
 
 kind-requires : tie.Need-kind-requires
 kind-requires c κs = search needs

@@ -1,8 +1,8 @@
 -- A place that was put aside. Assumes nothing.
-use Rattle.walk.proofs.Tracks.{places-more}
+use Rattle.places.proofs.Places.{places-more}
 use borrow.Author.Needs.{needs}
-use Rattle.walk.proofs.steps.taken.Statement.{statement}
-use Rattle.walk.proofs.steps.taken.Tie as tie
+use Rattle.places.proofs.taken.Statement.{statement}
+use Rattle.places.proofs.taken.Tie as tie
 
 mul-first : tie.Need-mul-first
 mul-first c = search needs

@@ -5,12 +5,12 @@ use mathlib.Core.List.{List}
 use mathlib.Core.Path.{ap, _∙_}
 use lib.Seq.{length-sets}
 use Rattle.rows.specs.Lines.{line}
-use Rattle.walk.specs.Tracks.{placesOf}
-use Rattle.walk.proofs.Tracks.{places-aside}
+use Rattle.places.specs.Places.{placesOf}
+use Rattle.places.proofs.Places.{places-aside}
 use Rattle.rows.proofs.Writes.{four-stores}
 use borrow.Author.Needs.{needs}
-use Rattle.walk.proofs.steps.put_aside.Statement.{statement}
-use Rattle.walk.proofs.steps.put_aside.Tie as tie
+use Rattle.places.proofs.put_aside.Statement.{statement}
+use Rattle.places.proofs.put_aside.Tie as tie
 
 mul-first : tie.Need-mul-first
 mul-first c = search needs

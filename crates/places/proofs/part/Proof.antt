@@ -2,8 +2,8 @@
 use mathlib.Core.Path.{sym, _∙_}
 use borrow.Author.Tests.{eq-eqb, ne-eqb}
 use borrow.Author.Needs.{needs}
-use Rattle.walk.proofs.steps.part.Statement.{statement}
-use Rattle.walk.proofs.steps.part.Tie as tie
+use Rattle.places.proofs.part.Statement.{statement}
+use Rattle.places.proofs.part.Tie as tie
 
 left-requires : tie.Need-left-requires
 left-requires c κs = search needs

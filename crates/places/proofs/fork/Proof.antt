@@ -1,8 +1,8 @@
 -- The right part of an `either` is put aside. Assumes nothing.
-use Rattle.walk.proofs.Tracks.{fork-right, fork-none}
+use Rattle.places.proofs.Places.{fork-right, fork-none}
 use borrow.Author.Needs.{needs}
-use Rattle.walk.proofs.steps.fork.Statement.{statement}
-use Rattle.walk.proofs.steps.fork.Tie as tie
+use Rattle.places.proofs.fork.Statement.{statement}
+use Rattle.places.proofs.fork.Tie as tie
 
 kind-requires : tie.Need-kind-requires
 kind-requires c κs = search needs
