@@ -1,7 +1,7 @@
 // Whether a choice repeats an earlier one: told by its bits and the rows alone.
 use rows::fields;
 ghost use Prim.Native.Nat.{_<_};
-ghost use mathlib.Core.Bool.{true, _&&_};
+ghost use mathlib.Core.Bool.{_&&_};
 ghost use mathlib.Core.Path.{_≡_};
 ghost use lib.Bits.{bitAnd};
 ghost use Rattle.laws.specs.Plans.{blank};

@@ -1,5 +1,5 @@
 // The fields of a row: four links and three masks.
-ghost use Prim.Native.Nat.{_+_, _*_, _<_};
+ghost use Prim.Native.Nat.{_<_};
 ghost use mathlib.Core.Path.{_≡_};
 ghost use Rattle.rows.specs.Rows.{kindAt, leftAt, nextAt, doneAt, belowAt, spanAt, riskAt};
 

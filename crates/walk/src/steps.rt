@@ -2,12 +2,11 @@
 use crate::Stop;
 use places::Place;
 use rows::fields;
-ghost use Prim.Native.Nat.{_+_, _*_, _≤_, _<_};
+ghost use Prim.Native.Nat.{_+_, _≤_};
 ghost use mathlib.Core.Bool.{true, false};
 ghost use mathlib.Core.List.{_∷_};
 ghost use mathlib.Core.Path.{_≡_};
 ghost use lib.ListN.{length};
-ghost use Rattle.ground.specs.Tests.{if_then_else_};
 ghost use Rattle.rules.specs.ListWords.{placeOf};
 ghost use Rattle.rows.specs.Rows.{InRows, SoundRows};
 ghost use Rattle.places.specs.Places.{placesOf};
