@@ -14,13 +14,14 @@ use Rattle.rules.specs.Table.{rowCount, primitives}
 use Rattle.laws.specs.Plans.{Plan, with-it, without, mask}
 use Rattle.laws.specs.Reach.{meetings}
 use Rattle.choice.specs.Steps.{planAt}
-use Rattle.walk.specs.Walks.{span, risk}
-use Rattle.walk.specs.Rows.{kindAt, leftAt}
-use Rattle.walk.specs.Lines.{rowsOf, line, lines, Stands}
-use Rattle.laying.specs.Laying.{sideOf, leafPlan, Coming, planOf, linesOf, Comes, MasksOf, allRows, allLines, Laying}
-use Rattle.walk.proofs.Writes.{sets-stands, sets-before, sets-after, stands-same}
+use Rattle.rows.specs.Masks.{span, risk}
+use Rattle.rows.specs.Rows.{kindAt, leftAt}
+use Rattle.rows.specs.Lines.{rowsOf, line, lines, sideOf, Stands}
+use Rattle.filling.specs.Filling.{leafPlan, MasksOf}
+use Rattle.laying.specs.Laying.{Coming, planOf, linesOf, Comes, allRows, allLines, Laying}
+use Rattle.rows.proofs.Writes.{sets-stands, sets-before, sets-after, stands-same}
 use Rattle.laying.proofs.Lines.{Line, line-of, some-row}
-use Rattle.laying.proofs.Filling.{masks-here, masks-there}
+use Rattle.filling.proofs.Filling.{masks-here, masks-there}
 
 -- what is to come is read from x on
 comes-same : (t : List ℤ) (whole l m : List ℕ) (end x : ℕ) (cs : List Coming) → ((j : ℕ) → x * 4 ≤ j → getD m j 0 ≡ getD l j 0) → Comes t whole l end x cs → Comes t whole m end x cs

@@ -23,7 +23,7 @@ use Rattle.laws.proofs.Apart.{number-below, few-primitives}
 use Rattle.laws.proofs.Numbers.{at-number}
 use Rattle.laws.proofs.Trees.{tree-row}
 use Rattle.choice.specs.Steps.{sideOf, planAt}
-use Rattle.walk.specs.Walks.{span}
+use Rattle.rows.specs.Masks.{span}
 use Rattle.walk.proofs.Sets.{cut-one}
 
 -- a row that is a leaf

@@ -1,7 +1,5 @@
 pub mod Linked
 pub mod Lines
-pub mod Filling
-pub mod Sizes
 pub mod Leaves
 pub mod Laying
 pub mod Stepped

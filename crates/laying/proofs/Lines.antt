@@ -9,10 +9,10 @@ use lib.Dec.{ltb, eqb}
 use lib.ListN.{length, length-append}
 use Rattle.ground.specs.Tests.{if_then_else_}
 use Rattle.laws.specs.Plans.{Plan, with-it, without, either, both}
-use Rattle.walk.specs.Rows.{kindAt, leftAt, nextAt, doneAt, shape, planTo, planIn, Inner, SoundLink, SoundLinks}
-use Rattle.walk.specs.Lines.{rowsOf, line, lines, Stands}
+use Rattle.rows.specs.Rows.{kindAt, leftAt, nextAt, doneAt, shape, planTo, planIn, Inner, SoundLink, SoundLinks}
+use Rattle.rows.specs.Lines.{rowsOf, line, lines, Stands}
 use Rattle.laying.proofs.Linked.{TiedLink, Tied}
-use Rattle.walk.proofs.Writes.{stands-left, stands-right, stands-first}
+use Rattle.rows.proofs.Writes.{stands-left, stands-right, stands-first}
 
 pub some-row : (p : Plan) → 0 < rowsOf p
 unfolding rowsOf

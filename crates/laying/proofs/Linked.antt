@@ -12,12 +12,15 @@ use Rattle.rules.specs.declared.Product.{Product}
 use Rattle.laws.specs.Survivors.{survivors}
 use Rattle.laws.specs.Plans.{Plan, with-it, without, either, both, ways, mask, Apart, nothing}
 use Rattle.laws.specs.Reach.{cutDown}
-use Rattle.walk.specs.declared.Place.{Place}
-use Rattle.walk.specs.Walks.{stale, span, walk, finish}
-use Rattle.walk.specs.Rows.{kindAt, leftAt, nextAt, doneAt, belowAt, spanAt, planIn, Inner, Later, SoundLinks}
-use Rattle.walk.specs.Tracks.{agedAt, openAt, onwardOf, asideOf, endOf, walkAt, startOf}
-use Rattle.laying.specs.Laying.{MasksOf, FullFrom}
-use Rattle.walk.proofs.Rows.{plan-with, plan-without, plan-either, plan-both}
+use Rattle.rows.specs.Masks.{span}
+use Rattle.rows.specs.Rows.{kindAt, leftAt, nextAt, doneAt, belowAt, spanAt, planIn, Inner, Later, SoundLinks}
+use Rattle.repeats.specs.Repeats.{stale}
+use Rattle.places.specs.declared.Place.{Place}
+use Rattle.places.specs.Places.{onwardOf, asideOf}
+use Rattle.walk.specs.Walks.{walk, finish}
+use Rattle.walk.specs.Tracks.{agedAt, openAt, endOf, walkAt, startOf}
+use Rattle.filling.specs.Filling.{MasksOf, FullFrom}
+use Rattle.rows.proofs.Rows.{plan-with, plan-without, plan-either, plan-both}
 use Rattle.walk.proofs.Tracks.{walk-open, walk-shut}
 use Rattle.walk.proofs.Walking.{walk-survivors}
 

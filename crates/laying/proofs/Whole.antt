@@ -11,22 +11,29 @@ use lib.IntN.{ℤ}
 use lib.ListN.{length, getD}
 use lib.Seq.{sets, length-sets}
 use Rattle.rules.specs.Table.{rowCount, primitives}
+use Rattle.rules.specs.Choices.{inOf}
 use Rattle.laws.specs.Survivors.{survivors}
 use Rattle.laws.specs.Plans.{Plan, ways, Apart}
 use Rattle.laws.specs.Reach.{cutDown, meetings}
 use Rattle.laws.specs.Sound.{Sound}
-use Rattle.choice.specs.Steps.{rootPlan}
-use Rattle.walk.specs.Rows.{kindAt, leftAt, SoundLinks}
-use Rattle.walk.specs.Lines.{line, Stands}
-use Rattle.laying.specs.Laying.{allRows, allLines, leafPlan, MasksOf, LeavesTo, Fills, Comes, Laying, Laid}
+use Rattle.choice.specs.Steps.{planAt, rootPlan}
+use Rattle.rows.specs.Rows.{kindAt, leftAt, SoundLinks}
+use Rattle.rows.specs.Lines.{line, Stands}
+use Rattle.filling.specs.Filling.{leafPlan, MasksOf, LeavesTo, Fills}
+use Rattle.laying.specs.Laying.{allRows, allLines, Comes, Laying, Laid}
+use Rattle.laws.proofs.Apart.{table-apart}
 use Rattle.laying.proofs.Linked.{rows-survivors}
 use Rattle.laying.proofs.Lines.{length-lines, lines-plan, lines-sound, lines-tied}
-use Rattle.laying.proofs.Sizes.{plan-apart, few-rows}
-use Rattle.walk.proofs.Writes.{sets-stands}
+use Rattle.sizing.proofs.Sizes.{few-rows}
+use Rattle.rows.proofs.Writes.{sets-stands}
 
 module _ (t : List ℤ) (S : Sound t) where
   last-row : rowCount t - 1 < rowCount t
   last-row = omega (arith, S .some-row)
+
+  root-apart : Apart (rootPlan t)
+  unfolding planAt
+  root-apart = table-apart t S (rowCount t - 1) last-row inOf
 
   pub few : allRows t ≤ 127
   few = few-rows t S (rowCount t - 1) last-row true
@@ -74,6 +81,6 @@ module _ (t : List ℤ) (S : Sound t) where
           sound = record { linked = all-sound; masked = λ x l. let m = full x (omega arith) l in record { below = m .below; risky = m .risky } };
           lists =
               let same = lines-plan links (rootPlan t) few stands in
-              rows-survivors (meetings (primitives t)) seen after all-sound (lines-tied links (rootPlan t) few stands) full (subst Apart (sym same) (plan-apart t S (rowCount t - 1) last-row true))
+              rows-survivors (meetings (primitives t)) seen after all-sound (lines-tied links (rootPlan t) few stands) full (subst Apart (sym same) root-apart)
               ∙ ap (λ (q : Plan). survivors (λ chosen. eqb (bitAnd chosen (cutDown (meetings (primitives t)) chosen seen)) chosen) (λ chosen. cutDown (meetings (primitives t)) chosen seen) (ways q)) same;
         })

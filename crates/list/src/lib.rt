@@ -3,8 +3,7 @@ use rules::Checked;
 use rules::Refusal;
 use rules::Window;
 use rules::Written;
-ghost use Prim.Native.Nat.{_+_, _*_, _≤_, _<_};
-ghost use mathlib.Core.Bool.{true};
+ghost use Prim.Native.Nat.{_≤_};
 ghost use mathlib.Core.Option.{none};
 ghost use mathlib.Core.Path.{_≡_};
 ghost use lib.ListN.{length};
@@ -15,7 +14,7 @@ ghost use Rattle.rules.specs.ListCalls.{windowRefusal, ListMade};
 ghost use Rattle.laws.specs.Plans.{count};
 ghost use Rattle.laws.specs.Sound.{Sound};
 ghost use Rattle.choice.specs.Steps.{Numbered, rootPlan};
-ghost use Rattle.walk.specs.Rows.{SoundRows};
+ghost use Rattle.rows.specs.Rows.{SoundRows};
 ghost use Rattle.walk.specs.Tracks.{walkAt, startOf};
 ghost use Rattle.list.specs.Words.{Measured};
 

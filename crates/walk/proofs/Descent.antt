@@ -18,7 +18,7 @@ use Rattle.laws.specs.Survivors.{pruned, survivors}
 use Rattle.laws.specs.Plans.{Plan, with-it, without, either, both, ways, count, kth, mask, Apart, blank, hollow, fresh, nothing}
 use Rattle.laws.proofs.Survivors.{survivors-next, survivors-none, survivors-all}
 use Rattle.laws.proofs.Ways.{Of, kth-within}
-use Rattle.walk.specs.Walks.{clear}
+use Rattle.repeats.specs.Repeats.{clear}
 use Rattle.walk.proofs.Sets.{or-most, or-most-right, or-assoc}
 
 -- ---- runs of n parts

@@ -4,7 +4,5 @@ pub mod Risk
 pub mod Stale
 pub mod Descent
 pub mod Walking
-pub mod Writes
-pub mod Rows
 pub mod Tracks
 pub mod Walked

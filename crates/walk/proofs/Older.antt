@@ -12,7 +12,7 @@ use Rattle.ground.proofs.Masks.{Within}
 use Rattle.rules.specs.declared.Product.{Product}
 use Rattle.laws.specs.Plans.{Plan, with-it, without, either, both, count, kth, blank, hollow, fresh}
 use Rattle.laws.proofs.Ways.{place-left}
-use Rattle.walk.specs.Walks.{clear}
+use Rattle.repeats.specs.Repeats.{clear}
 use Rattle.walk.proofs.Sets.{none-in-less, or-most}
 
 pub some-bit : (p : Plan) (k : ℕ) → k < count p → 0 < kth p k .plain + kth p k .cuts

@@ -13,7 +13,7 @@ use Rattle.rules.specs.declared.Product.{Product}
 use Rattle.laws.specs.Plans.{Plan, with-it, without, either, both, count, kth, mask, blank, hollow, fresh}
 use Rattle.laws.proofs.Blanks.{hollow-means, found-blank}
 use Rattle.laws.proofs.Ways.{kth-within, place-left, place-right}
-use Rattle.walk.specs.Walks.{risk}
+use Rattle.rows.specs.Masks.{risk}
 use Rattle.walk.proofs.Older.{some-bit, blank-smaller}
 
 -- with a smaller cut and a smaller risk there is less to keep

@@ -10,7 +10,8 @@ use Rattle.ground.specs.Tests.{if_then_else_}
 use Rattle.ground.proofs.Masks.{and-assoc, within-none, part-left, part-right, has, within-has, has-within, has-both, both-has}
 use Rattle.laws.specs.Plans.{Plan, with-it, without, either, both, count, kth, mask, Apart, blank, hollow, fresh}
 use Rattle.laws.proofs.Ways.{Of, kth-within, place-left, place-right}
-use Rattle.walk.specs.Walks.{risk, clear, safe, stale}
+use Rattle.rows.specs.Masks.{risk}
+use Rattle.repeats.specs.Repeats.{clear, safe, stale}
 use Rattle.walk.proofs.Older.{some-bit, clear-yes, clear-no}
 use Rattle.walk.proofs.Risk.{fresh-risk}
 

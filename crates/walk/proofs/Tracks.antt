@@ -1,4 +1,4 @@
--- The walk over rows: where it goes on and where it stops; what is put aside; what is written. Assumes nothing.
+-- The walk over rows: where it goes on and where it stops; what is written. Assumes nothing.
 use Prim.Native.Nat.{ℕ, zero, suc, _+_, _-_, _*_, _^_, _≤_, _<_}
 use native.Mathlib.Nat.{add-zero, two-pow-succ}
 use native.Mathlib.Numerals.{add-one}
@@ -7,23 +7,22 @@ use mathlib.Core.Bool.{Bool, true, false, not, _&&_}
 use mathlib.Core.List.{List, [], _∷_, _++_, flatMap, append-assoc, append-nil}
 use mathlib.Core.Path.{_≡_, refl, sym, ap, ap₂, subst, _∙_}
 use borrow.Author.Tests.{eq-eqb, ne-eqb, eqb-true, eqb-false}
-use lib.Bits.{bitAnd, bitOr}
+use lib.Bits.{bitAnd}
 use lib.Dec.{eqb}
-use lib.ListN.{length, getD, set, length-append}
+use lib.ListN.{length, set, length-append}
 use lib.Pow.{pow-mono}
 use lib.Seq.{sets, length-sets}
 use Rattle.ground.specs.Tests.{if_then_else_}
 use Rattle.ground.proofs.Lists.{flatMap-append}
 use Rattle.ground.proofs.Writes.{sets-append}
 use Rattle.rules.specs.declared.Product.{Product}
-use Rattle.rules.specs.ListWords.{wordsOf}
+use Rattle.rules.specs.ListWords.{headerWords, wordsOf, placeOf}
 use Rattle.laws.proofs.Words.{words-length}
-use Rattle.walk.specs.declared.Place.{Place}
-use Rattle.walk.specs.Rows.{kindAt, leftAt, nextAt, doneAt, belowAt, spanAt, planIn, Later, SoundLinks}
-use Rattle.walk.specs.Walks.{stale}
-use Rattle.walk.specs.Lines.{line}
-use Rattle.walk.specs.Tracks.{agedAt, narrowed, openAt, rightOf, onwardOf, asideOf, endOf, walkTo, walkAt, placesOf, Held, stepsLeft, Goes, Put}
-use Rattle.walk.proofs.Writes.{sets-stands, sets-before, stands-first}
+use Rattle.rows.specs.Rows.{kindAt, leftAt, doneAt, spanAt, planIn, Later, SoundLinks}
+use Rattle.repeats.specs.Repeats.{stale}
+use Rattle.places.specs.declared.Place.{Place}
+use Rattle.places.specs.Places.{narrowed, rightOf, onwardOf, asideOf, placesOf}
+use Rattle.walk.specs.Tracks.{agedAt, openAt, endOf, walkTo, walkAt, Held, stepsLeft, Goes, Put}
 
 both-true : (a b : Bool) → (a && b) ≡ true → a ≡ true
 both-true true b h = refl
@@ -44,44 +43,6 @@ module _ (links masks : List ℕ) (at : Place) where
   unfolding agedAt
   aged-by e h g =
       g ∙ ap (λ (y : ℕ). stale (planIn links y) (at .plain) (at .cuts) (at .reach)) e ∙ sym (rw (ne-eqb (doneAt links (at .row)) 0 (λ z. h (e ∙ z))))
-
-  module _ {kind span : ℕ} (k : kind ≡ kindAt links (at .row)) (w : span ≡ spanAt masks (at .row)) where
-    reached : bitAnd (at .reach) span ≡ narrowed links masks at
-    reached = ap (bitAnd (at .reach)) w
-
-    module _ {next below : ℕ} (x : next ≡ nextAt links (at .row)) (m : below ≡ belowAt masks (at .row)) where
-      pub onward-with : kind ≡ 0 → record { row = next; plain = bitOr (at .plain) below; cuts = at .cuts; reach = bitAnd (at .reach) span } ≡ onwardOf links masks at
-      unfolding onwardOf
-      onward-with h =
-          (λ i. record { row = x i; plain = bitOr (at .plain) (m i); cuts = at .cuts; reach = reached i })
-          ∙ sym (rw (eq-eqb (kindAt links (at .row)) 0 (sym k ∙ h)))
-
-      pub onward-without : kind ≡ 1 → record { row = next; plain = at .plain; cuts = bitOr (at .cuts) below; reach = bitAnd (at .reach) span } ≡ onwardOf links masks at
-      unfolding onwardOf
-      onward-without h =
-          (λ i. record { row = x i; plain = at .plain; cuts = bitOr (at .cuts) (m i); reach = reached i })
-          ∙ sym (rw (ne-eqb (kindAt links (at .row)) 0 (λ z. omega (arith, k, z, h)), eq-eqb (kindAt links (at .row)) 1 (sym k ∙ h)))
-
-    pub onward-part : (kind ≡ 0 → ⊥) → (kind ≡ 1 → ⊥) → {row : ℕ} → row ≡ if_then_else_ (eqb kind 2) (leftAt links (at .row)) (at .row + 1)
-        → record { row = row; plain = at .plain; cuts = at .cuts; reach = bitAnd (at .reach) span } ≡ onwardOf links masks at
-    unfolding onwardOf
-    onward-part h g e =
-        (λ i. record { row = (e ∙ ap (λ (n : ℕ). if_then_else_ (eqb n 2) (leftAt links (at .row)) (at .row + 1)) k) i; plain = at .plain; cuts = at .cuts; reach = reached i })
-        ∙ go (eqb (kindAt links (at .row)) 2)
-        ∙ sym (rw (ne-eqb (kindAt links (at .row)) 0 (λ z. h (k ∙ z)), ne-eqb (kindAt links (at .row)) 1 (λ z. g (k ∙ z))))
-      where
-        go : (b : Bool) → record { row = if_then_else_ b (leftAt links (at .row)) (at .row + 1); plain = at .plain; cuts = at .cuts; reach = narrowed links masks at }
-            ≡ if_then_else_ b (record { row = leftAt links (at .row); plain = at .plain; cuts = at .cuts; reach = narrowed links masks at }) (rightOf links masks at)
-        go true = refl
-        go false = refl
-
-    pub fork-right : kind ≡ 2 → {all aside : List Place} → all ≡ record { row = at .row + 1; plain = at .plain; cuts = at .cuts; reach = bitAnd (at .reach) span } ∷ aside → all ≡ asideOf links masks at aside
-    fork-right h {all} {aside} e =
-        e ∙ ap (λ (q : ℕ). record { row = at .row + 1; plain = at .plain; cuts = at .cuts; reach = q } ∷ aside) reached
-        ∙ sym (rw (eq-eqb (kindAt links (at .row)) 2 (sym k ∙ h)))
-
-  pub fork-none : {kind : ℕ} → kind ≡ kindAt links (at .row) → (kind ≡ 2 → ⊥) → {aside : List Place} → aside ≡ asideOf links masks at aside
-  fork-none k h = sym (rw (ne-eqb (kindAt links (at .row)) 2 (λ z. h (k ∙ z))))
 
   module _ (end : ℕ) where
     pub shut-end : at .row ≡ end → false ≡ openAt links masks end at
@@ -258,48 +219,23 @@ unfolding placesOf
 length-places aside zero = refl
 length-places aside (suc n) = ap suc (length-places aside n)
 
--- places are read from the words before their end
-same-places : (a b : List ℕ) (n : ℕ) → ((j : ℕ) → j < n * 4 → getD a j 0 ≡ getD b j 0) → placesOf a n ≡ placesOf b n
-unfolding placesOf
-same-places a b zero h = refl
-same-places a b (suc n) h =
-    ap₂ (λ (p : Place) (ps : List Place). p ∷ ps)
-    (λ i. record { row = h (n * 4) (omega arith) i; plain = h (n * 4 + 1) (omega arith) i; cuts = h (n * 4 + 2) (omega arith) i; reach = h (n * 4 + 3) (omega arith) i })
-    (same-places a b n (λ j l. h j (omega arith)))
-
-pub places-more : (aside : List ℕ) (n : ℕ) → placesOf aside (n + 1)
-    ≡ record { row = getD aside (n * 4) 0; plain = getD aside (n * 4 + 1) 0; cuts = getD aside (n * 4 + 2) 0; reach = getD aside (n * 4 + 3) 0 } ∷ placesOf aside n
-unfolding placesOf
-places-more aside n = ap (placesOf aside) (add-one n)
-
--- one more is put aside
-pub places-aside : (l : List ℕ) (n r p c q : ℕ) → n * 4 + 4 ≤ length l
-    → placesOf (sets l (n * 4) (line r p c q)) (n + 1) ≡ record { row = r; plain = p; cuts = c; reach = q } ∷ placesOf l n
-places-aside l n r p c q fits =
-    let m = sets l (n * 4) (line r p c q) in
-    let s = sets-stands l (n * 4) (line r p c q) fits in
-    places-more m n
-    ∙ ap₂ (λ (x : Place) (xs : List Place). x ∷ xs)
-    (λ i. record { row = stands-first m (n * 4) r (p ∷ c ∷ q ∷ []) s i; plain = s 1 (omega arith) i; cuts = s 2 (omega arith) i; reach = s 3 (omega arith) i })
-    (same-places m l n (λ j h. sets-before (line r p c q) l (n * 4) j h))
-
 -- ---- what is written
 
 pub put-none : (keeps : Bool) (l : List ℕ) (n : ℕ) {products : List Product} → products ≡ [] → Put keeps l l n n products
 unfolding flatMap
 put-none keeps l n e = subst (Put keeps l l n n) (sym e) (record { count = sym (add-zero n); words = go keeps })
   where
-    go : (b : Bool) → l ≡ sets l (8 + 2 * n) (if_then_else_ b [] [])
+    go : (b : Bool) → l ≡ sets l (placeOf n) (if_then_else_ b [] [])
     go true = refl
     go false = refl
 
 pub put-one : (l : List ℕ) (n plain cuts : ℕ) {products : List Product} → products ≡ record { plain = plain; cuts = cuts } ∷ []
-    → {keeps : Bool} → keeps ≡ true → Put keeps l (set (set l (8 + 2 * n) plain) (8 + 2 * n + 1) cuts) n (n + 1) products
+    → {keeps : Bool} → keeps ≡ true → Put keeps l (set (set l (placeOf n) plain) (placeOf n + 1) cuts) n (n + 1) products
 unfolding flatMap
 put-one l n plain cuts {products} e {keeps} k =
-    subst (λ (b : Bool). Put b l (set (set l (8 + 2 * n) plain) (8 + 2 * n + 1) cuts) n (n + 1) products) (sym k)
-    (subst (Put true l (set (set l (8 + 2 * n) plain) (8 + 2 * n + 1) cuts) n (n + 1)) (sym e)
-    (record { count = refl; words = ap (λ (j : ℕ). set (set l (8 + 2 * n) plain) j cuts) (add-one (8 + 2 * n)) }))
+    subst (λ (b : Bool). Put b l (set (set l (placeOf n) plain) (placeOf n + 1) cuts) n (n + 1) products) (sym k)
+    (subst (Put true l (set (set l (placeOf n) plain) (placeOf n + 1) cuts) n (n + 1)) (sym e)
+    (record { count = refl; words = ap (λ (j : ℕ). set (set l (placeOf n) plain) j cuts) (add-one (placeOf n)) }))
 
 pub count-one : (l : List ℕ) (n : ℕ) {c : Product} {products : List Product} → products ≡ c ∷ [] → {keeps : Bool} → keeps ≡ false → Put keeps l l n (n + 1) products
 count-one l n {c} {products} e {keeps} k = subst (λ (b : Bool). Put b l l n (n + 1) products) (sym k) (subst (Put false l l n (n + 1)) (sym e) (record { count = refl; words = refl }))
@@ -307,13 +243,13 @@ count-one l n {c} {products} e {keeps} k = subst (λ (b : Bool). Put b l l n (n 
 pub put-then : (keeps : Bool) {l m o : List ℕ} {k r : ℕ} (ps qs : List Product) → Put keeps l m 0 k ps → Put keeps m o k r qs → Put keeps l o 0 r (ps ++ qs)
 put-then keeps {l} {m} {o} {k} {r} ps qs p q = record { count = omega (arith, p .count, q .count, length-append ps qs); words = go keeps (p .words) (q .words) }
   where
-    go : (b : Bool) → m ≡ sets l (8 + 2 * 0) (if_then_else_ b (flatMap wordsOf ps) []) → o ≡ sets m (8 + 2 * k) (if_then_else_ b (flatMap wordsOf qs) [])
-        → o ≡ sets l (8 + 2 * 0) (if_then_else_ b (flatMap wordsOf (ps ++ qs)) [])
+    go : (b : Bool) → m ≡ sets l (placeOf 0) (if_then_else_ b (flatMap wordsOf ps) []) → o ≡ sets m (placeOf k) (if_then_else_ b (flatMap wordsOf qs) [])
+        → o ≡ sets l (placeOf 0) (if_then_else_ b (flatMap wordsOf (ps ++ qs)) [])
     go true u v =
-        let at : 8 + 2 * k ≡ 8 + length (flatMap wordsOf ps) = omega (arith, p .count, words-length ps) in
+        let at : placeOf k ≡ headerWords + length (flatMap wordsOf ps) = omega (arith, p .count, words-length ps) in
         v ∙ ap₂ (λ (x : List ℕ) (j : ℕ). sets x j (flatMap wordsOf qs)) u at
-        ∙ sym (sets-append l 8 (flatMap wordsOf ps) (flatMap wordsOf qs)) ∙ ap (sets l 8) (sym (flatMap-append wordsOf ps qs))
+        ∙ sym (sets-append l headerWords (flatMap wordsOf ps) (flatMap wordsOf qs)) ∙ ap (sets l headerWords) (sym (flatMap-append wordsOf ps qs))
     go false u v = v ∙ u
 
 pub put-length : (keeps : Bool) {l m : List ℕ} {n r : ℕ} {products : List Product} → Put keeps l m n r products → length m ≡ length l
-put-length keeps {l} {n = n} {products = ps} p = ap length (p .words) ∙ length-sets l (8 + 2 * n) (if_then_else_ keeps (flatMap wordsOf ps) [])
+put-length keeps {l} {n = n} {products = ps} p = ap length (p .words) ∙ length-sets l (placeOf n) (if_then_else_ keeps (flatMap wordsOf ps) [])

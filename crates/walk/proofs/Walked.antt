@@ -7,10 +7,12 @@ use mathlib.Core.Path.{_≡_, refl, sym, ap, subst, _∙_}
 use lib.ListN.{length, length-append}
 use lib.Pow.{pow-pos}
 use Rattle.rules.specs.declared.Product.{Product}
-use Rattle.walk.specs.declared.Place.{Place}
-use Rattle.walk.specs.Rows.{SoundLinks}
-use Rattle.walk.specs.Tracks.{openAt, endOf, walkAt, placesOf, Held, stepsLeft, Goes, Put}
-use Rattle.walk.proofs.Tracks.{walk-shut, length-places, places-more, put-none, put-then}
+use Rattle.rows.specs.Rows.{SoundLinks}
+use Rattle.places.specs.declared.Place.{Place}
+use Rattle.places.specs.Places.{placesOf}
+use Rattle.walk.specs.Tracks.{openAt, endOf, walkAt, Held, stepsLeft, Goes, Put}
+use Rattle.places.proofs.Places.{places-more}
+use Rattle.walk.proofs.Tracks.{walk-shut, length-places, put-none, put-then}
 
 pub record Walked (links masks : List ℕ) (end : ℕ) (all : List Product) (keeps : Bool) (before now aside : List ℕ) (left n : ℕ) : Type 0 where
   pub products : List Product

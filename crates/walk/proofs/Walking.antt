@@ -17,7 +17,9 @@ use Rattle.laws.specs.Survivors.{pruned, survivors}
 use Rattle.laws.specs.Plans.{Plan, with-it, without, either, both, only, except, ways, count, kth, mask, Apart, blank, hollow, fresh, nothing}
 use Rattle.laws.specs.Reach.{cutDown}
 use Rattle.laws.proofs.Ways.{Of, kth-within, pair-fits}
-use Rattle.walk.specs.Walks.{clear, stale, dead, Rest, span, walk, finish}
+use Rattle.rows.specs.Masks.{span}
+use Rattle.repeats.specs.Repeats.{clear, stale}
+use Rattle.walk.specs.Walks.{dead, Rest, walk, finish}
 use Rattle.walk.proofs.Sets.{within-either, within-then, within-both, within-same, none-in-less, cut-within, cut-or, cut-none}
 use Rattle.walk.proofs.Older.{stale-smaller, blank-smaller, or-mono, and-mono}
 use Rattle.walk.proofs.Stale.{stale-fresh}

@@ -1,4 +1,2 @@
 pub mod Walks
-pub mod Rows
 pub mod Tracks
-pub mod Lines

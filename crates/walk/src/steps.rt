@@ -1,18 +1,16 @@
 // The walk: from place to place in the order of the choices, with the right parts that are still to be walked put aside.
-use crate::Place;
 use crate::Stop;
-use crate::fields;
-use crate::repeats;
-ghost use Prim.Native.Nat.{_+_, _*_, _≤_, _<_};
+use places::Place;
+use rows::fields;
+ghost use Prim.Native.Nat.{_+_, _≤_};
 ghost use mathlib.Core.Bool.{true, false};
 ghost use mathlib.Core.List.{_∷_};
 ghost use mathlib.Core.Path.{_≡_};
-ghost use lib.Dec.{eqb};
 ghost use lib.ListN.{length};
-ghost use Rattle.ground.specs.Tests.{if_then_else_};
 ghost use Rattle.rules.specs.ListWords.{placeOf};
-ghost use Rattle.walk.specs.Rows.{leftAt, InRows, SoundRows};
-ghost use Rattle.walk.specs.Tracks.{agedAt, openAt, onwardOf, asideOf, endOf, walkAt, startOf, placesOf, Held, Goes, Put};
+ghost use Rattle.rows.specs.Rows.{InRows, SoundRows};
+ghost use Rattle.places.specs.Places.{placesOf};
+ghost use Rattle.walk.specs.Tracks.{agedAt, openAt, endOf, walkAt, startOf, Held, Goes, Put};
 
 // The right part that is done just before this place holds a repeat.
 fn aged(links: &[u8; 508], masks: &[u64; 381], at: Place) -> bool
@@ -40,99 +38,6 @@ fn is_open(links: &[u8; 508], masks: &[u64; 381], end: usize, at: Place) -> bool
     !aged(links, masks, at)
 }
 
-// The part of a row with two parts that is walked first.
-fn part(links: &[u8; 508], row: usize, kind: usize) -> usize
-    requires { ⌜ row < 127 ⌝ }
-    ensures { λ r. ⌜ r ≡ (if eqb kind 2 then leftAt (now (links .entry)) row else row + 1) ⌝ }
-{
-    if kind == 2 {
-        return fields::left(links, row);
-    }
-    row + 1
-}
-
-// The place that is walked next: after a leaf, in the left part of an `either`, in the right part of a `both`.
-fn onward(links: &[u8; 508], masks: &[u64; 381], at: Place) -> Place
-    requires { ⌜ at .row < 127 ⌝ }
-    ensures { λ r. ⌜ r ≡ onwardOf (now (links .entry)) (now (masks .entry)) at ⌝ }
-{
-    let kind = fields::kind(links, at.row);
-    let reach = at.reach & fields::span(masks, at.row);
-    if kind == 0 {
-        return Place {
-            row: fields::next(links, at.row),
-            plain: at.plain | fields::below(masks, at.row),
-            cuts: at.cuts,
-            reach,
-        };
-    }
-    if kind == 1 {
-        return Place {
-            row: fields::next(links, at.row),
-            plain: at.plain,
-            cuts: at.cuts | fields::below(masks, at.row),
-            reach,
-        };
-    }
-    let row = part(links, at.row, kind);
-    Place {
-        row,
-        plain: at.plain,
-        cuts: at.cuts,
-        reach,
-    }
-}
-
-// Puts a place aside, after so many.
-fn put_aside(aside: &mut [u64; 256], count: usize, at: Place)
-    requires { ⌜ (count < 64) × (length (now aside) ≡ 256) ⌝ }
-    ensures { λ _. ⌜ (placesOf (now (aside .exit)) (count + 1) ≡ at ∷ placesOf (now (aside .entry)) count) × (length (now (aside .exit)) ≡ 256) ⌝ }
-{
-    let first = count * 4;
-    aside[first] = at.row as u64;
-    aside[first + 1] = at.plain;
-    aside[first + 2] = at.cuts;
-    aside[first + 3] = at.reach;
-}
-
-// The place that was put aside after so many.
-fn taken(aside: &[u64; 256], count: usize) -> Place
-    requires { ⌜ count < 64 ⌝ }
-    ensures { λ r. ⌜ placesOf (now (aside .entry)) (count + 1) ≡ r ∷ placesOf (now (aside .entry)) count ⌝ }
-{
-    let first = count * 4;
-    Place {
-        row: aside[first] as usize,
-        plain: aside[first + 1],
-        cuts: aside[first + 2],
-        reach: aside[first + 3],
-    }
-}
-
-// Puts the right part of an `either` aside; how many are aside then.
-fn fork(
-    links: &[u8; 508],
-    masks: &[u64; 381],
-    aside: &mut [u64; 256],
-    count: usize,
-    at: Place,
-) -> usize
-    requires { ⌜ (at .row < 127) × ((count < 64) × (length (now aside) ≡ 256)) ⌝ }
-    ensures { λ r. ⌜ (placesOf (now (aside .exit)) r ≡ asideOf (now (links .entry)) (now (masks .entry)) at (placesOf (now (aside .entry)) count)) × (length (now (aside .exit)) ≡ 256) ⌝ }
-{
-    if fields::kind(links, at.row) == 2 {
-        let right = Place {
-            row: at.row + 1,
-            plain: at.plain,
-            cuts: at.cuts,
-            reach: at.reach & fields::span(masks, at.row),
-        };
-        put_aside(aside, count, right);
-        return count + 1;
-    }
-    count
-}
-
 // Goes on from a place as long as it can.
 fn run(
     links: &[u8; 508],
@@ -150,8 +55,8 @@ fn run(
     let mut at = from;
     let mut more = count;
     while is_open(links, masks, end, at) {
-        more = fork(links, masks, aside, more, at);
-        at = onward(links, masks, at);
+        more = places::fork(links, masks, aside, more, at);
+        at = places::onward(links, masks, at);
     }
     Stop { at, aside: more }
 }
@@ -210,11 +115,11 @@ pub fn walk(
         cuts: 0,
         reach: seen,
     };
-    put_aside(&mut aside, 0, start);
+    places::put_aside(&mut aside, 0, start);
     let mut left: usize = 1;
     let mut count: usize = 0;
     while 0 < left {
-        let from = taken(&aside, left - 1);
+        let from = places::taken(&aside, left - 1);
         let stop = run(links, masks, end, &mut aside, from, left - 1);
         count = finish(links, masks, end, stop.at, list, count, keeps);
         left = stop.aside;

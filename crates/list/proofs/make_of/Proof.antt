@@ -1,5 +1,5 @@
 -- The room, then the list. Assumes nothing.
-use Prim.Native.Nat.{ℕ, _+_, _*_, _≤_, _<_}
+use Prim.Native.Nat.{ℕ, _≤_, _<_}
 use native.Mathlib.Omega.{arith}
 use mathlib.Core.Bool.{true}
 use mathlib.Core.List.{List, flatMap}
@@ -9,7 +9,7 @@ use lib.ListN.{length, length-replicate}
 use lib.Seq.{sets}
 use Rattle.rules.specs.Choices.{expansion}
 use Rattle.rules.specs.ListCalls.{zoneList, ListMade}
-use Rattle.rules.specs.ListWords.{wordsOf}
+use Rattle.rules.specs.ListWords.{headerWords, wordsOf, placeOf}
 use Rattle.rules.specs.Products.{products}
 use Rattle.rules.specs.Table.{primitives}
 use Rattle.rules.specs.Tree.{treeOf}
@@ -39,8 +39,8 @@ module _ (m : tie.After-lay) where
   all-products : all ≡ products (start .args .w) (primitives (start .args .table .now)) (treeOf (start .args .table .now))
   all-products = walked-products (m .lay .ensures) (start .args .w) (sound start) (start .pre .0 .1) (m .before .before .before .seen-in .ensures)
 
-  all-words : 8 + 2 * length all ≡ length (zoneList (start .args .table .now) (start .args .w))
-  all-words = ap (λ (ps : List Product). 8 + 2 * length ps) all-products ∙ sym (zone-words (start .args .table .now) (start .args .w))
+  all-words : placeOf (length all) ≡ length (zoneList (start .args .table .now) (start .args .w))
+  all-words = ap (λ (ps : List Product). placeOf (length ps)) all-products ∙ sym (zone-words (start .args .table .now) (start .args .w))
 
   all-few : length all ≤ start .args .ways
   all-few = walked-few (m .lay .ensures) (start .pre .1 .1 .0)
@@ -71,7 +71,7 @@ returns c =
     (made-room (s .args .table .now) (s .args .w) (s .args .list .now) (s .pre .0 .0) (s .pre .0 .1) (not-many s) (c .before .before .before .measure .ensures .0 .exact short ∙ all-words m) short)
 
 -- where the room is not too small, the list has room
-there : (r : tie.Else1) → 8 + 2 * length (all (r .before .before .before .before .before .before .before)) ≤ length (r .before .before .before .before .before .before .before .before .before .before .before .before .args .list .now)
+there : (r : tie.Else1) → placeOf (length (all (r .before .before .before .before .before .before .before))) ≤ length (r .before .before .before .before .before .before .before .before .before .before .before .before .args .list .now)
 there r =
     let measured = r .before .before .before .measure .ensures in
     measured .0 .enough (omega (arith, r .if1 .left, ap length (measured .1)))
@@ -101,8 +101,8 @@ returns-2 c =
     let m = c .before .before .before .before .before .before .before .before .before .before .before .before .before .before .before .before .before in
     let put = c .before .before .before .before .before .before .walk in
     let n : put .result ≡ length (all m) = omega (arith, put .ensures .count) in
-    let now = put .ensures .words ∙ ap (λ (l : List ℕ). sets l 8 (flatMap wordsOf (all m))) (c .before .before .before .before .before .before .before .before .before .before .before .before .before .measure .ensures .1) in
-    made-fine (s .args .table .now) (s .args .w) (s .args .list .now) (s .pre .0 .0) (s .pre .0 .1) (not-many s) (ap (λ (k : ℕ). 8 + 2 * k) n ∙ all-words m) (omega (arith, n, there (c .before .before .before .before .before .before .before .before .before .before)))
+    let now = put .ensures .words ∙ ap (λ (l : List ℕ). sets l headerWords (flatMap wordsOf (all m))) (c .before .before .before .before .before .before .before .before .before .before .before .before .before .measure .ensures .1) in
+    made-fine (s .args .table .now) (s .args .w) (s .args .list .now) (s .pre .0 .0) (s .pre .0 .1) (not-many s) (ap placeOf n ∙ all-words m) (omega (arith, n, there (c .before .before .before .before .before .before .before .before .before .before)))
     (list-written (s .args .table .now) (s .args .w) (s .args .list .now) (all-products m) n (s .pre .1 .0 .1) (there (c .before .before .before .before .before .before .before .before .before .before)) now (c .before .before .write-header .ensures))
 
 pub make-of-spec : {M : Type 1} → statement M

@@ -5,8 +5,9 @@ use mathlib.Core.Bool.{true}
 use mathlib.Core.List.{List, _∷_}
 use mathlib.Core.Path.{_≡_, sym, ap, ap₂, subst, _∙_}
 use lib.ListN.{length}
-use Rattle.walk.specs.declared.Place.{Place}
-use Rattle.walk.specs.Tracks.{openAt, placesOf, Held, Goes}
+use Rattle.places.specs.declared.Place.{Place}
+use Rattle.places.specs.Places.{placesOf}
+use Rattle.walk.specs.Tracks.{openAt, Held, Goes}
 use Rattle.walk.proofs.Tracks.{onward-later, held-in, goes-on, goes-then, goes-nowhere, length-places}
 use Rattle.walk.proofs.steps.run.Statement.{statement}
 use Rattle.walk.proofs.steps.run.Tie as tie

@@ -3,7 +3,8 @@ use Prim.Native.Nat.{ℕ, _+_, _≤_}
 use native.Mathlib.Omega.{arith}
 use borrow.Author.Needs.{needs}
 use lib.ListN.{length, length-replicate}
-use Rattle.walk.specs.Tracks.{walkAt, startOf, endOf, placesOf, stepsLeft}
+use Rattle.places.specs.Places.{placesOf}
+use Rattle.walk.specs.Tracks.{walkAt, startOf, endOf, stepsLeft}
 use Rattle.walk.proofs.Tracks.{put-length}
 use Rattle.walk.proofs.Walked.{Walked, few-aside, walked-none, walked-all, held-top, end-fits, fewer, walked-more}
 use Rattle.walk.proofs.steps.walk.Statement.{statement}
