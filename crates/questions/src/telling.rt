@@ -8,7 +8,7 @@ ghost use Prim.Native.Nat.{_≤_};
 // What a list's buffer is filled with before the call; no list here has such a word.
 pub const FILL: u64 = 777777;
 
-fn number(n: u64) {
+pub fn number(n: u64) {
     io::write_all(1, b"\t");
     io::print_decimal(1, n);
 }

@@ -1,8 +1,8 @@
 use Prim.Native.Nat.{_+_, _≤_, _-_}
 use lib.ListN.{length}
 use borrow.Author.Needs.{needs}
-use Rattle.cases.proofs.obey_all.Statement.{statement}
-use Rattle.cases.proofs.obey_all.Tie as tie
+use Rattle.questions.proofs.obey_all.Statement.{statement}
+use Rattle.questions.proofs.obey_all.Tie as tie
 
 abbrev Inv-loop : tie.InvT-loop
 Inv-loop text held₀ at₀ line₀ held at line = (at ≤ length text) × (line ≤ at + 1)

@@ -1,4 +1,5 @@
 // The calls, asked and told.
+use crate::comparing;
 use crate::telling;
 use lines::Word;
 use lines::numbers;
@@ -10,17 +11,19 @@ use rules::Written;
 ghost use Prim.Native.Nat.{_≤_};
 ghost use lib.ListN.{length};
 
-const CHECK_TABLE: usize = 8;
+const CHECK_TABLE: usize = 11;
 
-const TREE_POINT: usize = 9;
+const TREE_POINT: usize = 12;
 
-const TREE_SEARCH: usize = 10;
+const TREE_SEARCH: usize = 13;
 
-const LIST_POINT: usize = 11;
+const LIST_POINT: usize = 14;
 
-const LIST_SEARCH: usize = 12;
+const LIST_SEARCH: usize = 15;
 
-const MAKE_LIST: usize = 13;
+const MAKE_LIST: usize = 16;
+
+const COMPARE: usize = 17;
 
 fn point_of(n: [i32; 3]) -> Point {
     Point {
@@ -88,7 +91,7 @@ fn search(
 }
 
 // Asks of the list, of a frame or of both.
-fn ask_more(text: &[u8], call: usize, held: &[usize; 8], n: [i32; 3], table: &[i32]) -> bool {
+fn ask_more(text: &[u8], call: usize, held: &[usize; 11], n: [i32; 3], table: &[i32]) -> bool {
     let mut words: [u64; 256] = [0; 256];
     let read = words::read_words(text, held[crate::LIST], &mut words);
     if !read.right {
@@ -121,7 +124,7 @@ fn numbers_of(call: usize) -> usize {
     4
 }
 
-fn tell(text: &[u8], call: usize, held: &[usize; 8], n: [i32; 3], table: &[i32]) -> bool {
+fn tell(text: &[u8], call: usize, held: &[usize; 11], n: [i32; 3], table: &[i32]) -> bool {
     if call == CHECK_TABLE {
         telling::checked(zone::check_table(table));
         return true;
@@ -137,7 +140,10 @@ fn tell(text: &[u8], call: usize, held: &[usize; 8], n: [i32; 3], table: &[i32])
 }
 
 // Asks, and tells the answer, if the word is a call that has its numbers.
-pub fn ask(text: &[u8], word: Word, held: &[usize; 8], table: &[i32]) -> bool {
+pub fn ask(text: &[u8], word: Word, held: &[usize; 11], table: &[i32]) -> bool {
+    if word.place == COMPARE {
+        return comparing::compare(text, word.next, held, table);
+    }
     let mut n: [i32; 3] = [0; 3];
     let read = numbers::read_numbers(text, word.next, &mut n, 0);
     if !read.right | (read.count != numbers_of(word.place)) {
