@@ -10,6 +10,11 @@ use rules::Refusal;
 use rules::Window;
 use rules::Written;
 ghost use Prim.Native.Nat.{_≤_};
+ghost use lib.ListN.{length};
+
+const OUTSIDE: usize = 0;
+
+const INSIDE: usize = 1;
 
 const OUT_OF_WINDOW: usize = 2;
 
@@ -18,22 +23,29 @@ const DISAGREE: usize = 5;
 // At a place that has no point; these are counted too, and not told.
 const NO_POINT: usize = 6;
 
-fn refusal_told(r: Refusal) -> usize
+// 64 columns, 64 codes and 64 frames.
+const PLACES: usize = 262144;
+
+fn refusal_told(refusal: Refusal) -> usize
     ensures { λ r. ⌜ r ≤ 5 ⌝ }
 {
-    if (r.number != 10) | (2 < r.value) {
+    let axis = refusal.value;
+    if 2 < axis {
         return DISAGREE;
     }
-    OUT_OF_WINDOW + (r.value % 3) as usize
+    if refusal.number != 10 {
+        return DISAGREE;
+    }
+    OUT_OF_WINDOW + axis as usize
 }
 
 fn told(answer: Located) -> usize
     ensures { λ r. ⌜ r ≤ 5 ⌝ }
 {
     match answer {
-        Located::Outside => 0,
-        Located::Inside => 1,
-        Located::Refused(r) => refusal_told(r),
+        Located::Outside => OUTSIDE,
+        Located::Inside => INSIDE,
+        Located::Refused(refusal) => refusal_told(refusal),
     }
 }
 
@@ -60,7 +72,7 @@ fn count(counts: &mut [u64; 7], finding: usize)
     }
 }
 
-// Asks at place k of 64 columns, 64 codes and 64 frames, if there are as many.
+// What is found at place k: the columns follow one another first, the frames last.
 fn ask_at(
     table: &[i32],
     list: &[u64],
@@ -100,7 +112,7 @@ fn ask_all(
 ) -> [u64; 7] {
     let mut counts: [u64; 7] = [0; 7];
     let mut k: usize = 0;
-    while k < 262144 {
+    while k < PLACES {
         count(&mut counts, ask_at(table, list, columns, codes, frames, k));
         k += 1;
     }
@@ -129,27 +141,34 @@ fn compare_list(table: &[i32], w: Window, columns: &[i32], codes: &[i32], frames
     }
 }
 
-// Compares in the window that a line's numbers give; false if these or the coordinates are not right.
-pub fn compare(text: &[u8], at: usize, held: &[usize; 11], table: &[i32]) -> bool {
+// Reads the coordinates of a line, and answers how many there are: none if the line is not right.
+fn read_axis(text: &[u8], at: usize, into: &mut [i32]) -> usize
+    ensures { λ r. ⌜ r ≤ length (now (into .exit)) ⌝ }
+{
+    let read = numbers::read_numbers(text, at, into, 0);
+    if read.right {
+        return read.count;
+    }
+    0
+}
+
+// Compares at the coordinates that are set; false if there is no point.
+fn compare_at(text: &[u8], held: &[usize; 11], table: &[i32], w: Window) -> bool {
     let mut xs: [i32; 64] = [0; 64];
     let mut ys: [i32; 64] = [0; 64];
     let mut zs: [i32; 64] = [0; 64];
-    let columns = numbers::read_numbers(text, held[crate::COLUMNS], &mut xs, 0);
-    let codes = numbers::read_numbers(text, held[crate::CODES], &mut ys, 0);
-    let frames = numbers::read_numbers(text, held[crate::FRAMES], &mut zs, 0);
+    let columns = read_axis(text, held[crate::COLUMNS], &mut xs);
+    let codes = read_axis(text, held[crate::CODES], &mut ys);
+    let frames = read_axis(text, held[crate::FRAMES], &mut zs);
+    compare_list(table, w, &xs[0..columns], &ys[0..codes], &zs[0..frames]);
+    (0 < columns) & (0 < codes) & (0 < frames)
+}
+
+// Compares in the window that a line's numbers give; false if they are not six, or there is no point to compare at.
+pub fn compare(text: &[u8], at: usize, held: &[usize; 11], table: &[i32]) -> bool {
     let bounds = numbers::read_window(text, at);
-    if !(bounds.right & columns.right & codes.right & frames.right) {
+    if !bounds.right {
         return false;
     }
-    let x_end = columns.count;
-    let y_end = codes.count;
-    let z_end = frames.count;
-    compare_list(
-        table,
-        bounds.window,
-        &xs[0..x_end],
-        &ys[0..y_end],
-        &zs[0..z_end],
-    );
-    true
+    compare_at(text, held, table, bounds.window)
 }
