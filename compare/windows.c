@@ -1,57 +1,62 @@
-/* The windows nobody tries: prints what crates/windows has to print (its file stdout), by the plain implementation.
-   cc -o windows windows.c plain_table.c plain_tree.c plain_make.c plain_list.c && ./windows > ../crates/windows/stdout */
+/* The windows nobody tries: over each zone a window is moved as a thumb would move it, and its list held against the tree.
+   Prints the data of crates/windows with the argument `data`, and otherwise what it has to print of them, by the plain implementation.
+   cc -O2 -std=c99 -Wall -Wextra -pedantic -o windows windows.c plain_table.c plain_tree.c plain_make.c plain_list.c
+   ./windows data > ../crates/windows/data/zones && ./windows > ../crates/windows/stdout */
 #include <inttypes.h>
 #include <stdio.h>
+#include <stdlib.h>
+#include <string.h>
 
 #include "plain.h"
 #include "rules.h"
 
-#define MOST_POINTS 4096
-#define MOST_EDGES 16
+/* A line of data has at most so many coordinates; of a window with at most FEW on an axis it has all. */
+#define MOST_COORDINATES 64
+#define FEW 51
 
 /* The first window; then one axis moves, its lo by so much and its hi by so much, for so many windows. */
 struct walk {
+    const char *about;
     int32_t bound[BOUNDS], axis, lo, hi, windows;
 };
 
 struct zone {
-    const char *name;
+    const char *name, *about;
     const int32_t (*row)[ROW_WORDS];
     size_t rows;
     const struct walk *walk;
     size_t walks;
 };
 
-/* The coordinates to ask at on one axis: of the window, and beside it. */
+/* The coordinates to ask at on one axis, in order. */
 struct axis {
     size_t count;
-    int32_t at[MOST_POINTS + 2];
+    int32_t at[MOST_COORDINATES];
 };
 
-struct tally {
-    uint64_t compared, inside, disagree, beside, refused;
-};
+/* What is found at a point: list and tree say outside, or inside; the list refuses by the first axis out of its window; or else. */
+enum { OUTSIDE, INSIDE, OUT_OF_WINDOW, DISAGREE = OUT_OF_WINDOW + AXES, FINDINGS };
 
-/* The zones and walks of crates/windows/data/zones, which says what each is for. */
+/* The zones, and the walks over each. */
 
 static const int32_t q_rows[][ROW_WORDS] = {
     {BOX, 0, 9}, {BOX, 9, 12}, {DIFF, 0, 1}, {BOX, 20, 29}, {UNION, 2, 3}, {BOX, 8, 25}, {INTER, 4, 5},
 };
 
 static const struct walk q_walks[] = {
-    {{4, 7, 0, 0, 0, 0}, X, 1, 1, 12},
-    {{18, 19, 0, 0, 0, 0}, X, 1, 1, 10},
-    {{7, 7, 0, 0, 0, 0}, X, 1, 1, 4},
-    {{13, 19, 0, 0, 0, 0}, X, -1, 1, 6},
-    {{6, 10, 0, 0, 0, 0}, X, 1, -1, 4},
-    {{0, 7, 0, 0, 0, 0}, X, 8, 8, 4},
-    {{0, 30, -3, -1, 0, 0}, Y, 0, 1, 3},
-    {{0, 30, -1, 1, 0, 0}, Y, 1, -1, 3},
-    {{0, 30, -1, 1, -3, -1}, Z, 1, 1, 5},
-    {{LEAST_COLUMN, 7, ALL_CODES, ALL_FRAMES}, X, 0, 1, 4},
-    {{10, GREATEST_COLUMN, ALL_CODES, ALL_FRAMES}, X, -1, 0, 3},
-    {{FULL_RANGE}, X, 16384, -16384, 2},
-    {{LEAST_COLUMN, LEAST_COLUMN, LEAST_CODE, LEAST_CODE, LEAST_FRAME, LEAST_FRAME}, X, 65535, 65535, 2},
+    {"a column at a time over the column where A and B meet", {4, 7, 0, 0, 0, 0}, X, 1, 1, 12},
+    {"over the ends of C and D", {18, 19, 0, 0, 0, 0}, X, 1, 1, 10},
+    {"single points", {7, 7, 0, 0, 0, 0}, X, 1, 1, 4},
+    {"growing from between B and C", {13, 19, 0, 0, 0, 0}, X, -1, 1, 6},
+    {"shrinking until its hi is below its lo", {6, 10, 0, 0, 0, 0}, X, 1, -1, 4},
+    {"neighbours", {0, 7, 0, 0, 0, 0}, X, 8, 8, 4},
+    {"growing over codes", {0, 30, -3, -1, 0, 0}, Y, 0, 1, 3},
+    {"shrinking over codes", {0, 30, -1, 1, 0, 0}, Y, 1, -1, 3},
+    {"moving over frames", {0, 30, -1, 1, -3, -1}, Z, 1, 1, 5},
+    {"large windows that end where A and B meet", {LEAST_COLUMN, 7, ALL_CODES, ALL_FRAMES}, X, 0, 1, 4},
+    {"large windows that begin where A and B meet", {10, GREATEST_COLUMN, ALL_CODES, ALL_FRAMES}, X, -1, 0, 3},
+    {"the range, and half of its columns", {FULL_RANGE}, X, 16384, -16384, 2},
+    {"two corners of the range", {LEAST_COLUMN, LEAST_COLUMN, LEAST_CODE, LEAST_CODE, LEAST_FRAME, LEAST_FRAME}, X, 65535, 65535, 2},
 };
 
 static const int32_t cut_rows[][ROW_WORDS] = {
@@ -59,14 +64,14 @@ static const int32_t cut_rows[][ROW_WORDS] = {
 };
 
 static const struct walk cut_walks[] = {
-    {{5, 7, 0, 0, 0, 0}, X, 1, 1, 8},
-    {{1, 6, 0, 0, 0, 0}, X, 0, 1, 4},
-    {{13, 19, 0, 0, 0, 0}, X, -1, 1, 6},
-    {{7, 7, 0, 0, 0, 0}, X, 1, 1, 4},
-    {{0, 8, 0, 0, 0, 0}, X, 8, 8, 4},
-    {{0, 30, 1, 2, 0, 0}, Y, -1, 0, 3},
-    {{0, 30, 0, 0, -2, -1}, Z, 0, 1, 3},
-    {{LEAST_COLUMN, 7, ALL_CODES, ALL_FRAMES}, X, 0, 1, 3},
+    {"over the ends of C", {5, 7, 0, 0, 0, 0}, X, 1, 1, 8},
+    {"growing up to C", {1, 6, 0, 0, 0, 0}, X, 0, 1, 4},
+    {"growing from between C and B", {13, 19, 0, 0, 0, 0}, X, -1, 1, 6},
+    {"single points", {7, 7, 0, 0, 0, 0}, X, 1, 1, 4},
+    {"neighbours that share a column", {0, 8, 0, 0, 0, 0}, X, 8, 8, 4},
+    {"growing over codes", {0, 30, 1, 2, 0, 0}, Y, -1, 0, 3},
+    {"growing over frames", {0, 30, 0, 0, -2, -1}, Z, 0, 1, 3},
+    {"large windows that end where C begins", {LEAST_COLUMN, 7, ALL_CODES, ALL_FRAMES}, X, 0, 1, 3},
 };
 
 static const int32_t repeats_rows[][ROW_WORDS] = {
@@ -74,14 +79,14 @@ static const int32_t repeats_rows[][ROW_WORDS] = {
 };
 
 static const struct walk repeats_walks[] = {
-    {{36, 39, 0, 0, 0, 0}, X, 1, 1, 12},
-    {{1, 4, 0, 0, 0, 0}, X, 1, 1, 10},
-    {{46, 59, 0, 0, 0, 0}, X, -1, 1, 3},
-    {{38, 47, 0, 0, 0, 0}, X, 1, -1, 6},
-    {{44, 44, 0, 0, 0, 0}, X, 1, 1, 3},
-    {{30, 39, 0, 0, 0, 0}, X, 10, 10, 4},
-    {{0, 50, -1, 1, 1, 2}, Z, -1, -1, 4},
-    {{LEAST_COLUMN, 39, ALL_CODES, ALL_FRAMES}, X, 0, 1, 3},
+    {"over the columns where A begins and C ends", {36, 39, 0, 0, 0, 0}, X, 1, 1, 12},
+    {"over the columns where C begins and B ends", {1, 4, 0, 0, 0, 0}, X, 1, 1, 10},
+    {"growing from between C and D", {46, 59, 0, 0, 0, 0}, X, -1, 1, 3},
+    {"shrinking until its hi is below its lo", {38, 47, 0, 0, 0, 0}, X, 1, -1, 6},
+    {"single points", {44, 44, 0, 0, 0, 0}, X, 1, 1, 3},
+    {"neighbours", {30, 39, 0, 0, 0, 0}, X, 10, 10, 4},
+    {"over frames, from newer to older", {0, 50, -1, 1, 1, 2}, Z, -1, -1, 4},
+    {"large windows that end where A begins", {LEAST_COLUMN, 39, ALL_CODES, ALL_FRAMES}, X, 0, 1, 3},
 };
 
 static const int32_t empty_rows[][ROW_WORDS] = {
@@ -89,14 +94,14 @@ static const int32_t empty_rows[][ROW_WORDS] = {
 };
 
 static const struct walk empty_walks[] = {
-    {{16, 19, 0, 0, 0, 0}, X, 1, 1, 12},
-    {{10, 19, 0, 0, 0, 0}, X, -1, 1, 3},
-    {{18, 27, 0, 0, 0, 0}, X, 1, -1, 6},
-    {{19, 19, 0, 0, 0, 0}, X, 1, 1, 2},
-    {{25, 25, 0, 0, 0, 0}, X, 1, 1, 2},
-    {{6, 15, 0, 0, 0, 0}, X, 10, 10, 3},
-    {{0, 30, -2, 0, -2, 0}, Y, 1, 1, 4},
-    {{26, GREATEST_COLUMN, ALL_CODES, ALL_FRAMES}, X, -1, 0, 3},
+    {"over the columns where B begins and C ends", {16, 19, 0, 0, 0, 0}, X, 1, 1, 12},
+    {"growing from between A and B", {10, 19, 0, 0, 0, 0}, X, -1, 1, 3},
+    {"shrinking until its hi is below its lo", {18, 27, 0, 0, 0, 0}, X, 1, -1, 6},
+    {"single points where B begins", {19, 19, 0, 0, 0, 0}, X, 1, 1, 2},
+    {"single points where C ends", {25, 25, 0, 0, 0, 0}, X, 1, 1, 2},
+    {"neighbours", {6, 15, 0, 0, 0, 0}, X, 10, 10, 3},
+    {"moving over codes", {0, 30, -2, 0, -2, 0}, Y, 1, 1, 4},
+    {"large windows that begin where C ends", {26, GREATEST_COLUMN, ALL_CODES, ALL_FRAMES}, X, -1, 0, 3},
 };
 
 static const int32_t nested_rows[][ROW_WORDS] = {
@@ -114,22 +119,20 @@ static const int32_t nested_rows[][ROW_WORDS] = {
 };
 
 static const struct walk nested_walks[] = {
-    {{2, 5, -4, 4, -5, 0}, X, 1, 1, 6},
-    {{6, 6, -6, -4, -4, 0}, Y, 1, 1, 12},
-    {{5, 5, 1, 1, -5, -5}, X, 1, 1, 3},
-    {{-6, 13, -4, 6, -8, -6}, Z, 0, 1, 5},
-    {{-6, 13, -4, 6, -1, 0}, Z, 1, 1, 5},
-    {{-6, -1, -4, 4, -5, 0}, X, 6, 6, 4},
-    {{-6, 13, -4, -2, -5, 1}, Y, 3, 3, 4},
-    {{-6, 13, -4, 6, -5, -4}, Z, 2, 2, 4},
-    {{0, 7, -2, 4, -3, 1}, X, 1, -1, 4},
-    {{0, 7, -1, 3, -3, 1}, Y, 1, -1, 3},
-    {{0, 7, -2, 4, -2, 0}, Z, 1, -1, 3},
-    {{-8, 15, -6, 8, -6, 4}, Z, 0, 1, 2},
-    {{-4, 11, -6, 9, -10, 5}, X, 0, 1, 3},
-    {{LEAST_COLUMN, 5, ALL_CODES, ALL_FRAMES}, X, 0, 1, 3},
-    {{ALL_COLUMNS, LEAST_CODE, -5, ALL_FRAMES}, Y, 0, 1, 3},
-    {{ALL_COLUMNS, ALL_CODES, 2, GREATEST_FRAME}, Z, -1, 0, 4},
+    {"over the column where the boxes of A and B meet", {2, 5, -4, 4, -5, 0}, X, 1, 1, 6},
+    {"along that column", {6, 6, -6, -4, -4, 0}, Y, 1, 1, 12},
+    {"single points", {5, 5, 1, 1, -5, -5}, X, 1, 1, 3},
+    {"growing over the oldest frames", {-6, 13, -4, 6, -8, -6}, Z, 0, 1, 5},
+    {"over the newest frames", {-6, 13, -4, 6, -1, 0}, Z, 1, 1, 5},
+    {"neighbours over columns", {-6, -1, -4, 4, -5, 0}, X, 6, 6, 4},
+    {"neighbours over codes", {-6, 13, -4, -2, -5, 1}, Y, 3, 3, 4},
+    {"neighbours over frames", {-6, 13, -4, 6, -5, -4}, Z, 2, 2, 4},
+    {"shrinking over columns", {0, 7, -2, 4, -3, 1}, X, 1, -1, 4},
+    {"shrinking over codes", {0, 7, -1, 3, -3, 1}, Y, 1, -1, 3},
+    {"shrinking over frames", {0, 7, -2, 4, -2, 0}, Z, 1, -1, 3},
+    {"large windows that end at a column where a box begins or ends", {LEAST_COLUMN, 5, ALL_CODES, ALL_FRAMES}, X, 0, 1, 3},
+    {"large windows that end at a code where boxes begin", {ALL_COLUMNS, LEAST_CODE, -5, ALL_FRAMES}, Y, 0, 1, 3},
+    {"large windows that begin at a frame where a box ends", {ALL_COLUMNS, ALL_CODES, 2, GREATEST_FRAME}, Z, -1, 0, 4},
 };
 
 static const int32_t range_rows[][ROW_WORDS] = {
@@ -143,92 +146,155 @@ static const int32_t range_rows[][ROW_WORDS] = {
 };
 
 static const struct walk range_walks[] = {
-    {{LEAST_COLUMN, LEAST_COLUMN, LEAST_CODE, LEAST_CODE, LEAST_FRAME, LEAST_FRAME}, X, 65535, 65535, 2},
-    {{LEAST_COLUMN, LEAST_COLUMN, GREATEST_CODE, GREATEST_CODE, LEAST_FRAME, LEAST_FRAME}, X, 65535, 65535, 2},
-    {{LEAST_COLUMN, LEAST_COLUMN, LEAST_CODE, LEAST_CODE, GREATEST_FRAME, GREATEST_FRAME}, X, 65535, 65535, 2},
-    {{LEAST_COLUMN, LEAST_COLUMN, GREATEST_CODE, GREATEST_CODE, GREATEST_FRAME, GREATEST_FRAME}, X, 65535, 65535, 2},
-    {{LEAST_COLUMN, -32767, LEAST_CODE, LEAST_CODE, LEAST_FRAME, LEAST_FRAME}, X, 0, 1, 9},
-    {{LEAST_COLUMN, -32760, LEAST_CODE, LEAST_CODE, LEAST_FRAME, -32766}, Y, 0, 1, 10},
-    {{-32766, -32763, LEAST_CODE, -32760, LEAST_FRAME, -32760}, X, -1, -1, 6},
-    {{32764, GREATEST_COLUMN, 32764, GREATEST_CODE, 32764, GREATEST_FRAME}, Z, 1, 1, 4},
-    {{-32764, -32757, -32764, -32757, -32764, -32757}, Z, 1, 1, 5},
-    {{31565, 31569, 31565, 31569, 32757, 32758}, Z, 1, 1, 5},
-    {{32764, GREATEST_COLUMN, 28664, 28668, 32760, 32761}, Y, 1, 1, 8},
-    {{24573, 24574, 28670, 28672, 32759, 32760}, X, 0, 1, 3},
-    {{LEAST_COLUMN, -28673, LEAST_CODE, LEAST_CODE, LEAST_FRAME, LEAST_FRAME}, X, 0, 1, 2},
-    {{LEAST_COLUMN, -1, ALL_CODES, ALL_FRAMES}, X, 32768, 32768, 2},
-    {{FULL_RANGE}, Y, 1, -1, 4},
+    {"corners at the least code and frame",
+     {LEAST_COLUMN, LEAST_COLUMN, LEAST_CODE, LEAST_CODE, LEAST_FRAME, LEAST_FRAME}, X, 65535, 65535, 2},
+    {"corners at the greatest code and the least frame",
+     {LEAST_COLUMN, LEAST_COLUMN, GREATEST_CODE, GREATEST_CODE, LEAST_FRAME, LEAST_FRAME}, X, 65535, 65535, 2},
+    {"corners at the least code and the greatest frame",
+     {LEAST_COLUMN, LEAST_COLUMN, LEAST_CODE, LEAST_CODE, GREATEST_FRAME, GREATEST_FRAME}, X, 65535, 65535, 2},
+    {"corners at the greatest code and frame",
+     {LEAST_COLUMN, LEAST_COLUMN, GREATEST_CODE, GREATEST_CODE, GREATEST_FRAME, GREATEST_FRAME}, X, 65535, 65535, 2},
+    {"growing from the lowest corner over columns",
+     {LEAST_COLUMN, -32767, LEAST_CODE, LEAST_CODE, LEAST_FRAME, LEAST_FRAME}, X, 0, 1, 9},
+    {"growing from the lowest corner over codes",
+     {LEAST_COLUMN, -32760, LEAST_CODE, LEAST_CODE, LEAST_FRAME, -32766}, Y, 0, 1, 10},
+    {"pushed against the least column", {-32766, -32763, LEAST_CODE, -32760, LEAST_FRAME, -32760}, X, -1, -1, 6},
+    {"pushed against the greatest frame", {32764, GREATEST_COLUMN, 32764, GREATEST_CODE, 32764, GREATEST_FRAME}, Z, 1, 1, 4},
+    {"out of the box in the corner", {-32764, -32757, -32764, -32757, -32764, -32757}, Z, 1, 1, 5},
+    {"into the drum", {31565, 31569, 31565, 31569, 32757, 32758}, Z, 1, 1, 5},
+    {"along the drum's last column", {32764, GREATEST_COLUMN, 28664, 28668, 32760, 32761}, Y, 1, 1, 8},
+    {"up to the drum's first column", {24573, 24574, 28670, 28672, 32759, 32760}, X, 0, 1, 3},
+    {"two halves of the range", {LEAST_COLUMN, -1, ALL_CODES, ALL_FRAMES}, X, 32768, 32768, 2},
+    {"the range, shrinking over codes", {FULL_RANGE}, Y, 1, -1, 4},
 };
 
 #define COUNT(array) (sizeof array / sizeof array[0])
-#define ZONE(name, of) {name, of##_rows, COUNT(of##_rows), of##_walks, COUNT(of##_walks)}
+#define ZONE(name, of, about) {name, about, of##_rows, COUNT(of##_rows), of##_walks, COUNT(of##_walks)}
 
 static const struct zone zones[] = {
-    ZONE("Q", q),
-    ZONE("((B+A)-C)*D", cut),
-    ZONE("(B+C)-(D*A)", repeats),
-    ZONE("(D*(A+B))*C", empty),
-    ZONE("((A+B)-(C-(D-E)))-F", nested),
-    ZONE("(A-(B-C))-D", range),
+    ZONE("Q", q, "The rules' zone Q, ((A-B)+C)*D: A ends in column 9, where B begins."),
+    ZONE("((B+A)-C)*D", cut, "A cut that misses one of two products: C ends before B begins."),
+    ZONE("(B+C)-(D*A)", repeats, "Two cuts, of which D misses B and C, and A misses B: products that repeat."),
+    ZONE("(D*(A+B))*C", empty, "An intersection of which one product is empty: D begins after A ends."),
+    ZONE("((A+B)-(C-(D-E)))-F", nested,
+         "Drums, wedges and nested differences: the box of A ends in column 6, where that of B begins."),
+    ZONE("(A-(B-C))-D", range,
+         "The whole range, less the part of a box in its lowest corner that a wedge leaves, and less a drum at its highest columns "
+         "and codes."),
 };
 
-/* Coordinates. */
+/* Walks. */
 
 static int32_t brought(int64_t value, int32_t lo, int32_t hi)
 {
     return value < lo ? lo : value > hi ? hi : (int32_t)value;
 }
 
-static void add(struct axis *to, int32_t value)
+/* The next window of a walk. A bound that would leave the range stays at its end. */
+static void step(struct walk *walk)
 {
-    for (size_t k = 0; k < to->count; k++)
-        if (to->at[k] == value)
-            return;
-    if (to->count < MOST_EDGES)
-        to->at[to->count++] = value;
+    const struct axis_limits *end = &limits[walk->axis];
+    int32_t *lo = &walk->bound[LO(walk->axis)], *hi = &walk->bound[HI(walk->axis)];
+    *lo = brought((int64_t)*lo + walk->lo, end->least, end->greatest);
+    *hi = brought((int64_t)*hi + walk->hi, end->least, end->greatest);
 }
 
-/* The two outermost values at either end of the window, and each primitive's bounds, brought into the window. */
-static void edges(const struct zone *zone, int axis, int32_t lo, int32_t hi, struct axis *to)
+/* Coordinates. */
+
+/* Adds one in its place, unless it is there or out of range. */
+static void add(struct axis *to, int axis, int64_t value)
 {
-    add(to, lo);
-    add(to, brought((int64_t)lo + 1, lo, hi));
-    add(to, brought((int64_t)hi - 1, lo, hi));
-    add(to, hi);
-    for (size_t r = 0; r < zone->rows; r++) {
-        const int32_t *row = zone->row[r];
-        if (!is_primitive(row[KIND]))
-            continue;
-        int64_t least = row[BOUND + LO(axis)], greatest = row[BOUND + HI(axis)];
-        if (row[KIND] == DRUM && axis != Z) {
-            least = (int64_t)row[CENTRE + axis] - row[RADIUS + axis];
-            greatest = (int64_t)row[CENTRE + axis] + row[RADIUS + axis];
-        }
-        add(to, brought(least, lo, hi));
-        add(to, brought(greatest, lo, hi));
+    if (!is_coordinate(axis, value))
+        return;
+    size_t place = 0;
+    while (place < to->count && to->at[place] < value)
+        place++;
+    if (place < to->count && to->at[place] == value)
+        return;
+    if (to->count == MOST_COORDINATES)
+        abort();
+    memmove(&to->at[place + 1], &to->at[place], (to->count - place) * sizeof to->at[0]);
+    to->at[place] = (int32_t)value;
+    to->count++;
+}
+
+/* The two outermost at either end. */
+static void add_ends(struct axis *to, int axis, int64_t lo, int64_t hi)
+{
+    add(to, axis, lo);
+    add(to, axis, lo + 1);
+    add(to, axis, hi - 1);
+    add(to, axis, hi);
+}
+
+/* All of a window that has few, the ends of another; and those beside it. */
+static void add_window(struct axis *to, int axis, int64_t lo, int64_t hi)
+{
+    if (hi - lo < FEW)
+        for (int64_t value = lo; value <= hi; value++)
+            add(to, axis, value);
+    else
+        add_ends(to, axis, lo, hi);
+    add(to, axis, lo - 1);
+    add(to, axis, hi + 1);
+}
+
+static void add_edges(struct axis *to, int axis, const int32_t *row)
+{
+    int64_t least = row[BOUND + LO(axis)], greatest = row[BOUND + HI(axis)];
+    if (row[KIND] == DRUM && axis != Z) {
+        least = (int64_t)row[CENTRE + axis] - row[RADIUS + axis];
+        greatest = (int64_t)row[CENTRE + axis] + row[RADIUS + axis];
+    }
+    add(to, axis, least);
+    add(to, axis, greatest);
+}
+
+/* Those of the windows of a walk, the edges of the zone's primitives, and the ends of the range. */
+static struct axis coordinates(const struct zone *zone, struct walk walk, int axis)
+{
+    struct axis to = {0, {0}};
+    for (int32_t k = 0; k < walk.windows; k++, step(&walk))
+        add_window(&to, axis, walk.bound[LO(axis)], walk.bound[HI(axis)]);
+    for (size_t r = 0; r < zone->rows; r++)
+        if (is_primitive(zone->row[r][KIND]))
+            add_edges(&to, axis, zone->row[r]);
+    add_ends(&to, axis, limits[axis].least, limits[axis].greatest);
+    return to;
+}
+
+/* Data. */
+
+static void print_numbers(const char *word, const int32_t *numbers, size_t count)
+{
+    printf("%s", word);
+    for (size_t k = 0; k < count; k++)
+        printf(" %" PRId32, numbers[k]);
+}
+
+static void print_walk(const struct zone *zone, struct walk walk)
+{
+    static const char *const words[AXES] = {[X] = "columns", [Y] = "codes", [Z] = "frames"};
+    printf("# %s\n", walk.about);
+    for (int axis = X; axis < AXES; axis++) {
+        struct axis at = coordinates(zone, walk, axis);
+        print_numbers(words[axis], at.at, at.count);
+        printf("\n");
+    }
+    for (int32_t k = 0; k < walk.windows; k++, step(&walk)) {
+        print_numbers(zone->name, walk.bound, BOUNDS);
+        print_numbers("\tcompare", walk.bound, BOUNDS);
+        printf("\n");
     }
 }
 
-static void all(int32_t lo, int32_t hi, struct axis *to)
+static void print_zone(const struct zone *zone)
 {
-    for (int32_t value = lo; value <= hi; value++)
-        to->at[to->count++] = value;
-}
-
-static void beside(int axis, int32_t lo, int32_t hi, struct axis *to)
-{
-    if (lo > limits[axis].least)
-        to->at[to->count++] = lo - 1;
-    if (hi < limits[axis].greatest)
-        to->at[to->count++] = hi + 1;
-}
-
-static int64_t points(const int32_t *bound)
-{
-    int64_t count = 1;
-    for (int axis = X; axis < AXES; axis++)
-        count *= (int64_t)bound[HI(axis)] - bound[LO(axis)] + 1;
-    return count;
+    printf("\n# %s\nzone\n", zone->about);
+    for (size_t r = 0; r < zone->rows; r++) {
+        print_numbers("row", zone->row[r], 1 + kinds[zone->row[r][KIND]].fields);
+        printf("\n");
+    }
 }
 
 /* Answers. */
@@ -242,92 +308,75 @@ static int first_out(const int32_t *bound, const int32_t *point)
     return AXES;
 }
 
-static void ask_point(const struct zone *zone, const int32_t *bound, const uint64_t *list, size_t words,
-                      const int32_t *point, struct tally *tally)
+static int find(const struct zone *zone, const int32_t *bound, const uint64_t *list, size_t words, const int32_t *point)
 {
     const int32_t *table = zone->row[0];
     size_t words_in_table = table_words(zone->rows);
     struct plain_answer by_list = plain_list_point(table, words_in_table, list, words, point[X], point[Y], point[Z]);
-    int out = first_out(bound, point);
-    if (out < AXES) {
-        tally->beside++;
-        tally->refused += by_list.refusal == 10 && by_list.value == (uint64_t)out;
-        return;
-    }
     struct plain_answer by_tree = plain_tree_point(table, words_in_table, point[X], point[Y], point[Z]);
-    tally->compared++;
-    tally->inside += by_list.refusal == 0 && by_list.value == 1;
-    tally->disagree += by_list.refusal != 0 || by_tree.refusal != 0 || by_list.value != by_tree.value;
+    int out = first_out(bound, point);
+    if (by_tree.refusal != 0)
+        return DISAGREE;
+    if (out < AXES)
+        return by_list.refusal == 10 && by_list.value == (uint64_t)out ? OUT_OF_WINDOW + out : DISAGREE;
+    if (by_list.refusal != 0 || by_list.value != by_tree.value)
+        return DISAGREE;
+    return by_list.value == 1 ? INSIDE : OUTSIDE;
 }
 
-static struct tally ask_all(const struct zone *zone, const int32_t *bound, const uint64_t *list, size_t words,
-                            const struct axis *axes)
+/* How often each is found at the points that have their coordinates on the three axes. */
+static void print_findings(const struct zone *zone, const int32_t *bound, const uint64_t *list, size_t words,
+                           const struct axis *axes)
 {
-    struct tally tally = {0, 0, 0, 0, 0};
+    uint64_t found[FINDINGS] = {0};
     for (size_t k = 0; k < axes[Z].count; k++) {
         for (size_t j = 0; j < axes[Y].count; j++) {
             for (size_t i = 0; i < axes[X].count; i++) {
                 int32_t point[AXES] = {axes[X].at[i], axes[Y].at[j], axes[Z].at[k]};
-                ask_point(zone, bound, list, words, point, &tally);
+                found[find(zone, bound, list, words, point)]++;
             }
         }
     }
-    return tally;
+    for (int f = 0; f < FINDINGS; f++)
+        printf("\t%" PRIu64, found[f]);
 }
 
-/* Windows. */
-
-static void ask_window(const struct zone *zone, const int32_t *bound, const uint64_t *list, size_t words)
+static void try_window(const struct zone *zone, const int32_t *bound, const struct axis *axes)
 {
-    static struct axis axes[AXES];
-    int few = points(bound) <= MOST_POINTS;
-    for (int axis = X; axis < AXES; axis++) {
-        int32_t lo = bound[LO(axis)], hi = bound[HI(axis)];
-        axes[axis].count = 0;
-        if (few)
-            all(lo, hi, &axes[axis]);
-        else
-            edges(zone, axis, lo, hi, &axes[axis]);
-        beside(axis, lo, hi, &axes[axis]);
-    }
-    struct tally tally = ask_all(zone, bound, list, words, axes);
-    printf("\t%" PRIu64 "\t%" PRIu64 "\t%" PRIu64 "\t%" PRIu64 "\t%" PRIu64 "\n",
-           tally.compared, tally.inside, tally.disagree, tally.beside, tally.refused);
-}
-
-static void try_window(const struct zone *zone, const int32_t *bound)
-{
-    static uint64_t list[32];
+    uint64_t list[32];
     struct plain_window window = {bound[LO(X)], bound[HI(X)], bound[LO(Y)], bound[HI(Y)], bound[LO(Z)], bound[HI(Z)]};
-    printf("%s", zone->name);
-    for (int b = 0; b < BOUNDS; b++)
-        printf("\t%" PRId32, bound[b]);
     struct plain_answer made = plain_make_list(zone->row[0], table_words(zone->rows), window, list, COUNT(list));
+    print_numbers(zone->name, bound, BOUNDS);
     if (made.refusal != 0) {
         printf("\trefused\t%" PRIu64 "\t%" PRIu64 "\n", made.refusal, made.value);
         return;
     }
     printf("\t%" PRIu64, list[LIST_PRODUCTS]);
-    ask_window(zone, bound, list, made.value);
+    print_findings(zone, bound, list, made.value, axes);
+    printf("\n");
 }
 
-/* A bound that would leave the range stays at its end. */
-static void walk(const struct zone *zone, struct walk walk)
+static void try_walk(const struct zone *zone, struct walk walk)
 {
-    const struct axis_limits *end = &limits[walk.axis];
-    int32_t *lo = &walk.bound[LO(walk.axis)], *hi = &walk.bound[HI(walk.axis)];
-    for (int32_t k = 0; k < walk.windows; k++) {
-        try_window(zone, walk.bound);
-        *lo = brought((int64_t)*lo + walk.lo, end->least, end->greatest);
-        *hi = brought((int64_t)*hi + walk.hi, end->least, end->greatest);
-    }
+    struct axis axes[AXES];
+    for (int axis = X; axis < AXES; axis++)
+        axes[axis] = coordinates(zone, walk, axis);
+    for (int32_t k = 0; k < walk.windows; k++, step(&walk))
+        try_window(zone, walk.bound, axes);
 }
 
-int main(void)
+int main(int arguments, char **argument)
 {
-    printf("zone\txlo\txhi\tylo\tyhi\tzlo\tzhi\tproducts\tcompared\tinside\tdisagree\tbeside\trefused\n");
-    for (size_t z = 0; z < COUNT(zones); z++)
+    int data = arguments == 2 && strcmp(argument[1], "data") == 0;
+    if (data)
+        printf("# Over each zone a window is moved, and its list held against the tree: in the window, beside it and far away.\n");
+    else
+        printf("zone and window\tproducts\toutside\tinside\tout by column\tby code\tby frame\tdisagree\n");
+    for (size_t z = 0; z < COUNT(zones); z++) {
+        if (data)
+            print_zone(&zones[z]);
         for (size_t w = 0; w < zones[z].walks; w++)
-            walk(&zones[z], zones[z].walk[w]);
+            (data ? print_walk : try_walk)(&zones[z], zones[z].walk[w]);
+    }
     return 0;
 }

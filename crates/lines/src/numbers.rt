@@ -1,5 +1,6 @@
 // The numbers of a line, from a position on.
 use crate::Filled;
+use number::Number;
 use rules::Window;
 ghost use Prim.Native.Nat.{_≤_, _<_};
 ghost use mathlib.Core.Path.{_≡_};
@@ -21,11 +22,14 @@ pub fn wrong(count: usize) -> Filled
     }
 }
 
-// Numbers that end before this byte, which has to be that of the line's end.
-pub fn ended(b: u8, count: usize) -> Filled
+// What was read up to a position; right if the line ends there, or the text.
+pub fn ended(text: &[u8], at: usize, count: usize) -> Filled
     ensures { λ r. ⌜ r .count ≡ count ⌝ }
 {
-    let right = b == b'\n';
+    if text.len() <= at {
+        return Filled { right: true, count };
+    }
+    let right = text[at] == b'\n';
     Filled { right, count }
 }
 
@@ -37,6 +41,22 @@ pub fn size_of(v: i32) -> usize {
     v as usize
 }
 
+// The number after the space at a position; it is not right where there is none.
+fn number_after(text: &[u8], at: usize) -> Number {
+    let none = Number {
+        right: false,
+        value: 0,
+        next: at,
+    };
+    if text.len() <= at {
+        return none;
+    }
+    if text[at] != b' ' {
+        return none;
+    }
+    number::read_number(text, at + 1)
+}
+
 // Writes the numbers of a line after those that are there. At the text's end there are none.
 pub fn read_numbers(text: &[u8], at: usize, into: &mut [i32], before: usize) -> Filled
     requires { ⌜ before ≤ length (now into) ⌝ }
@@ -44,29 +64,17 @@ pub fn read_numbers(text: &[u8], at: usize, into: &mut [i32], before: usize) -> 
 {
     let mut count = before;
     let mut next = at;
-    while next < text.len() {
-        if text[next] != b' ' {
-            return ended(text[next], count);
-        }
-        let number = number::read_number(text, next + 1);
+    while count < into.len() {
+        let number = number_after(text, next);
         if !number.right {
-            return wrong(count);
-        }
-        if number.next <= next {
-            return wrong(count);
-        }
-        if into.len() <= count {
-            return wrong(count);
+            return ended(text, next, count);
         }
         let value = number.value;
         into[count] = value;
         count += 1;
         next = number.next;
     }
-    Filled {
-        right: next == at,
-        count,
-    }
+    ended(text, next, count)
 }
 
 // Reads the numbers of a line, and answers whether they are just as many as there are places.
@@ -90,15 +98,11 @@ fn code(v: i32) -> i16 {
     v as i16
 }
 
-// The place after one of so many, the first after the last.
-fn following(k: usize, n: usize) -> usize
-    requires { ⌜ k < n ⌝ }
-    ensures { λ r. ⌜ r < n ⌝ }
+// The number at a place, where some numbers follow one another over and over.
+fn over_and_over(numbers: &[i32], place: usize) -> i32
+    requires { ⌜ 0 < length (now numbers) ⌝ }
 {
-    if k + 1 < n {
-        return k + 1;
-    }
-    0
+    numbers[place % numbers.len()]
 }
 
 // Writes these codes, over and over, into all places, and answers whether each of them is one.
@@ -107,11 +111,10 @@ fn repeat(codes: &[i32], into: &mut [i16]) -> bool
 {
     let mut right = true;
     let mut k: usize = 0;
-    let mut of: usize = 0;
     while k < into.len() {
-        into[k] = code(codes[of]);
-        right = right & is_code(codes[of]);
-        of = following(of, codes.len());
+        let v = over_and_over(codes, k);
+        into[k] = code(v);
+        right = right & is_code(v);
         k += 1;
     }
     right

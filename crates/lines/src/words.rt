@@ -53,29 +53,36 @@ fn read_digits(text: &[u8], at: usize) -> Digits {
     Digits { value, next }
 }
 
+// The word after the space at a position, which stays where there is none.
+fn word_after(text: &[u8], at: usize) -> Digits {
+    let none = Digits { value: 0, next: at };
+    if text.len() <= at {
+        return none;
+    }
+    if text[at] != b' ' {
+        return none;
+    }
+    let word = read_digits(text, at + 1);
+    if word.next == at + 1 {
+        return none;
+    }
+    word
+}
+
 // Writes the words of a line. At the text's end there are none.
 pub fn read_words(text: &[u8], at: usize, into: &mut [u64]) -> Filled
     ensures { λ r. ⌜ r .count ≤ length (now (into .exit)) ⌝ }
 {
     let mut count: usize = 0;
     let mut next = at;
-    while next < text.len() {
-        if text[next] != b' ' {
-            return numbers::ended(text[next], count);
-        }
-        let word = read_digits(text, next + 1);
-        if word.next <= next + 1 {
-            return numbers::wrong(count);
-        }
-        if into.len() <= count {
-            return numbers::wrong(count);
+    while count < into.len() {
+        let word = word_after(text, next);
+        if word.next == next {
+            return numbers::ended(text, next, count);
         }
         into[count] = word.value;
         count += 1;
         next = word.next;
     }
-    Filled {
-        right: next == at,
-        count,
-    }
+    numbers::ended(text, next, count)
 }

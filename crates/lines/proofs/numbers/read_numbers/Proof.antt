@@ -9,16 +9,13 @@ abbrev Inv-loop : tie.InvT-loop
 Inv-loop text at into₀ before count₀ next₀ into count next = (count ≤ length into₀) × (length into ≡ length into₀)
 
 abbrev μ-loop : tie.MeasureT-loop
-μ-loop text at into₀ before count₀ next₀ into count next = length text - next
+μ-loop text at into₀ before count₀ next₀ into count next = length into₀ - count
 
 loop-holds : tie.Need-loop-holds Inv-loop μ-loop
 loop-holds c = search needs
 
-shared-slice-read-if1 : tie.Need-shared-slice-read-if1 Inv-loop μ-loop
-shared-slice-read-if1 c = search needs
-
-shared-slice-read-ended : tie.Need-shared-slice-read-ended Inv-loop μ-loop
-shared-slice-read-ended c = search needs
+number-after-requires : tie.Need-number-after-requires Inv-loop μ-loop
+number-after-requires c κs = search needs
 
 ended-requires : tie.Need-ended-requires Inv-loop μ-loop
 ended-requires c κs = search needs
@@ -28,39 +25,6 @@ same-length c = search needs
 
 returns : tie.Need-returns Inv-loop μ-loop
 returns c = search needs
-
-add-read-number : tie.Need-add-read-number Inv-loop μ-loop
-add-read-number c = search needs
-
-read-number-requires : tie.Need-read-number-requires Inv-loop μ-loop
-read-number-requires c κs = search needs
-
-wrong-requires : tie.Need-wrong-requires Inv-loop μ-loop
-wrong-requires c κs = search needs
-
-same-length-2 : tie.Need-same-length-2 Inv-loop μ-loop
-same-length-2 c = search needs
-
-returns-2 : tie.Need-returns-2 Inv-loop μ-loop
-returns-2 c = search needs
-
-wrong-requires-2 : tie.Need-wrong-requires-2 Inv-loop μ-loop
-wrong-requires-2 c κs = search needs
-
-same-length-3 : tie.Need-same-length-3 Inv-loop μ-loop
-same-length-3 c = search needs
-
-returns-3 : tie.Need-returns-3 Inv-loop μ-loop
-returns-3 c = search needs
-
-wrong-requires-3 : tie.Need-wrong-requires-3 Inv-loop μ-loop
-wrong-requires-3 c κs = search needs
-
-same-length-4 : tie.Need-same-length-4 Inv-loop μ-loop
-same-length-4 c = search needs
-
-returns-4 : tie.Need-returns-4 Inv-loop μ-loop
-returns-4 c = search needs
 
 mul-value : tie.Need-mul-value Inv-loop μ-loop
 mul-value c = search needs
@@ -77,11 +41,14 @@ loop-less c = search needs
 loop-again : tie.Need-loop-again Inv-loop μ-loop
 loop-again c = search needs
 
-same-length-5 : tie.Need-same-length-5 Inv-loop μ-loop
-same-length-5 c = search needs
+ended-requires-2 : tie.Need-ended-requires-2 Inv-loop μ-loop
+ended-requires-2 c κs = search needs
 
-returns-5 : tie.Need-returns-5 Inv-loop μ-loop
-returns-5 c = search needs
+same-length-2 : tie.Need-same-length-2 Inv-loop μ-loop
+same-length-2 c = search needs
+
+returns-2 : tie.Need-returns-2 Inv-loop μ-loop
+returns-2 c = search needs
 
 pub read-numbers-spec : {M : Type 1} → statement M
 read-numbers-spec =
@@ -90,26 +57,15 @@ read-numbers-spec =
     Inv-loop
     μ-loop
     loop-holds
-    shared-slice-read-if1
-    shared-slice-read-ended
+    number-after-requires
     ended-requires
     same-length
     returns
-    add-read-number
-    read-number-requires
-    wrong-requires
-    same-length-2
-    returns-2
-    wrong-requires-2
-    same-length-3
-    returns-3
-    wrong-requires-3
-    same-length-4
-    returns-4
     mul-value
     slice-set-from-value
     add-count
     loop-less
     loop-again
-    same-length-5
-    returns-5)
+    ended-requires-2
+    same-length-2
+    returns-2)

@@ -9,16 +9,13 @@ abbrev Inv-loop : tie.InvT-loop
 Inv-loop text at into₀ count₀ next₀ into count next = (count ≤ length into₀) × (length into ≡ length into₀)
 
 abbrev μ-loop : tie.MeasureT-loop
-μ-loop text at into₀ count₀ next₀ into count next = length text - next
+μ-loop text at into₀ count₀ next₀ into count next = length into₀ - count
 
 loop-holds : tie.Need-loop-holds Inv-loop μ-loop
 loop-holds c = search needs
 
-shared-slice-read-if1 : tie.Need-shared-slice-read-if1 Inv-loop μ-loop
-shared-slice-read-if1 c = search needs
-
-shared-slice-read-ended : tie.Need-shared-slice-read-ended Inv-loop μ-loop
-shared-slice-read-ended c = search needs
+word-after-requires : tie.Need-word-after-requires Inv-loop μ-loop
+word-after-requires c κs = search needs
 
 ended-requires : tie.Need-ended-requires Inv-loop μ-loop
 ended-requires c κs = search needs
@@ -28,33 +25,6 @@ same-length c = search needs
 
 returns : tie.Need-returns Inv-loop μ-loop
 returns c = search needs
-
-add-read-digits : tie.Need-add-read-digits Inv-loop μ-loop
-add-read-digits c = search needs
-
-read-digits-requires : tie.Need-read-digits-requires Inv-loop μ-loop
-read-digits-requires c κs = search needs
-
-add-if2 : tie.Need-add-if2 Inv-loop μ-loop
-add-if2 c = search needs
-
-wrong-requires : tie.Need-wrong-requires Inv-loop μ-loop
-wrong-requires c κs = search needs
-
-same-length-2 : tie.Need-same-length-2 Inv-loop μ-loop
-same-length-2 c = search needs
-
-returns-2 : tie.Need-returns-2 Inv-loop μ-loop
-returns-2 c = search needs
-
-wrong-requires-2 : tie.Need-wrong-requires-2 Inv-loop μ-loop
-wrong-requires-2 c κs = search needs
-
-same-length-3 : tie.Need-same-length-3 Inv-loop μ-loop
-same-length-3 c = search needs
-
-returns-3 : tie.Need-returns-3 Inv-loop μ-loop
-returns-3 c = search needs
 
 mul-into : tie.Need-mul-into Inv-loop μ-loop
 mul-into c = search needs
@@ -71,11 +41,14 @@ loop-less c = search needs
 loop-again : tie.Need-loop-again Inv-loop μ-loop
 loop-again c = search needs
 
-same-length-4 : tie.Need-same-length-4 Inv-loop μ-loop
-same-length-4 c = search needs
+ended-requires-2 : tie.Need-ended-requires-2 Inv-loop μ-loop
+ended-requires-2 c κs = search needs
 
-returns-4 : tie.Need-returns-4 Inv-loop μ-loop
-returns-4 c = search needs
+same-length-2 : tie.Need-same-length-2 Inv-loop μ-loop
+same-length-2 c = search needs
+
+returns-2 : tie.Need-returns-2 Inv-loop μ-loop
+returns-2 c = search needs
 
 pub read-words-spec : {M : Type 1} → statement M
 read-words-spec =
@@ -84,24 +57,15 @@ read-words-spec =
     Inv-loop
     μ-loop
     loop-holds
-    shared-slice-read-if1
-    shared-slice-read-ended
+    word-after-requires
     ended-requires
     same-length
     returns
-    add-read-digits
-    read-digits-requires
-    add-if2
-    wrong-requires
-    same-length-2
-    returns-2
-    wrong-requires-2
-    same-length-3
-    returns-3
     mul-into
     slice-write-into
     add-count
     loop-less
     loop-again
-    same-length-4
-    returns-4)
+    ended-requires-2
+    same-length-2
+    returns-2)

@@ -1,0 +1,153 @@
+// The calls, asked and told.
+use crate::comparing;
+use crate::telling;
+use lines::Word;
+use lines::numbers;
+use lines::words;
+use rules::Place;
+use rules::Point;
+use rules::Window;
+use rules::Written;
+ghost use Prim.Native.Nat.{_≤_};
+ghost use lib.ListN.{length};
+
+const CHECK_TABLE: usize = 11;
+
+const TREE_POINT: usize = 12;
+
+const TREE_SEARCH: usize = 13;
+
+const LIST_POINT: usize = 14;
+
+const LIST_SEARCH: usize = 15;
+
+const MAKE_LIST: usize = 16;
+
+const COMPARE: usize = 17;
+
+fn point_of(n: [i32; 3]) -> Point {
+    Point {
+        x: n[0],
+        y: n[1],
+        z: n[2],
+    }
+}
+
+// Makes a list in the first words of a buffer, and tells how that went and what the buffer holds.
+fn tell_list(table: &[i32], window: Window, list: &mut [u64], room: usize)
+    requires { ⌜ room ≤ length (now list) ⌝ }
+{
+    let answer = zone::make_list(table, window, &mut list[0..room]);
+    match answer {
+        Written::Wrote(n) => {
+            telling::wrote(list, n);
+        }
+        Written::Refused(r) => {
+            telling::refused(r);
+            telling::buffer(list, 0);
+        }
+    }
+}
+
+fn make_list(text: &[u8], window: usize, n: [i32; 3], table: &[i32]) -> bool {
+    let room = numbers::size_of(n[0]);
+    let of = numbers::size_of(n[1]);
+    let bounds = numbers::read_window(text, window);
+    if !bounds.right {
+        return false;
+    }
+    if 256 < of {
+        return false;
+    }
+    if of < room {
+        return false;
+    }
+    let mut list: [u64; 256] = [telling::FILL; 256];
+    tell_list(table, bounds.window, &mut list[0..of], room);
+    true
+}
+
+fn search(
+    text: &[u8],
+    call: usize,
+    frame: usize,
+    place: Place,
+    table: &[i32],
+    list: &[u64],
+) -> bool {
+    let mut codes: [i16; 65537] = [0; 65537];
+    let read = numbers::read_frame(text, frame, &mut codes);
+    if !read.right {
+        return false;
+    }
+    let count = read.count;
+    let samples = &codes[0..count];
+    if call == TREE_SEARCH {
+        telling::searched(zone::tree_search(table, samples, place));
+        return true;
+    }
+    telling::searched(zone::list_search(table, list, samples, place));
+    true
+}
+
+// Asks of the list, of a frame or of both.
+fn ask_more(text: &[u8], call: usize, held: &[usize; 11], n: [i32; 3], table: &[i32]) -> bool {
+    let mut words: [u64; 256] = [0; 256];
+    let read = words::read_words(text, held[crate::LIST], &mut words);
+    if !read.right {
+        return false;
+    }
+    let count = read.count;
+    let list = &words[0..count];
+    if call == LIST_POINT {
+        telling::located(zone::list_point(table, list, point_of(n)));
+        return true;
+    }
+    let place = Place {
+        first: n[0],
+        frame: n[1],
+    };
+    search(text, call, held[crate::FRAME], place, table, list)
+}
+
+// How many numbers a call has; more than any for a word that is none.
+fn numbers_of(call: usize) -> usize {
+    if call == CHECK_TABLE {
+        return 0;
+    }
+    if (call == TREE_POINT) | (call == LIST_POINT) {
+        return 3;
+    }
+    if call <= MAKE_LIST {
+        return 2;
+    }
+    4
+}
+
+fn tell(text: &[u8], call: usize, held: &[usize; 11], n: [i32; 3], table: &[i32]) -> bool {
+    if call == CHECK_TABLE {
+        telling::checked(zone::check_table(table));
+        return true;
+    }
+    if call == TREE_POINT {
+        telling::located(zone::tree_point(table, point_of(n)));
+        return true;
+    }
+    if call == MAKE_LIST {
+        return make_list(text, held[crate::WINDOW], n, table);
+    }
+    ask_more(text, call, held, n, table)
+}
+
+// Asks, and tells the answer, if the word is a call that has its numbers.
+pub fn ask(text: &[u8], word: Word, held: &[usize; 11], table: &[i32]) -> bool {
+    if word.place == COMPARE {
+        return comparing::compare(text, word.next, held, table);
+    }
+    let mut n: [i32; 3] = [0; 3];
+    let read = numbers::read_numbers(text, word.next, &mut n, 0);
+    if !read.right | (read.count != numbers_of(word.place)) {
+        return false;
+    }
+    tell(text, word.place, held, n, table)
+}

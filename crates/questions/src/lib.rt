@@ -1,0 +1,98 @@
+// Questions as data: what is asked through the public calls, and what the answers tell, a line for each.
+//
+// A line (the crate `lines` says how one is written) sets what is asked, or asks by the name of a call:
+//     zone                 a table without rows; row, words and again add to it (lines::rows)
+//     list W W ..          a list of these words
+//     frame N C C ..       a frame of N samples with these codes, over and over
+//     window XLO XHI YLO YHI ZLO ZHI
+//     columns X X ..       codes Y Y ..         frames Z Z ..
+//     check_table          tree_point X Y Z     tree_search FIRST FRAME
+//     make_list ROOM OF    list_point X Y Z     list_search FIRST FRAME
+//     compare XLO XHI YLO YHI ZLO ZHI
+// The name of a line that asks is printed before its answer. make_list is lent the first ROOM of OF words, all filled; the list's words are printed,
+// and how many of the others are as they were. compare makes the list of its own window and asks it and the tree at every point of the columns, codes
+// and frames; it prints how many products there are, and how often each finding (comparing) is made. A line that is none of these, or has other
+// numbers, or asks of what has, is told and ends the run.
+mod asking;
+mod comparing;
+mod telling;
+
+use lines::Word;
+use lines::rows;
+ghost use Prim.Native.Nat.{_≤_, _<_};
+ghost use lib.ListN.{length};
+
+// The words of the lines, by their places: none, those of a table, those that set, and the calls from 11 on.
+const ZONE: usize = 4;
+
+const LIST: usize = 5;
+
+const FRAME: usize = 6;
+
+const WINDOW: usize = 7;
+
+const COLUMNS: usize = 8;
+
+const CODES: usize = 9;
+
+const FRAMES: usize = 10;
+
+fn word_at(text: &[u8], at: usize) -> Word
+    requires { ⌜ at ≤ length (now text) ⌝ }
+{
+    let words =
+        b"\nrow\nwords\nagain\nzone\nlist\nframe\nwindow\ncolumns\ncodes\nframes\ncheck_table\ntree_point\ntree_search\nlist_point\nlist_search\nmake_list\ncompare\n";
+    lines::read_word(text, at, words)
+}
+
+// Keeps where the last line with each word goes on.
+fn keep(held: &mut [usize; 11], word: Word) {
+    let place = word.place;
+    let next = word.next;
+    if place <= FRAMES {
+        held[place] = next;
+    }
+}
+
+// Answers the line at a position, if it asks; false if something of it is not right.
+fn obey(text: &[u8], line: usize, start: usize, word: Word, held: &[usize; 11]) -> bool
+    requires { ⌜ (line < length (now text)) × ((line ≤ start) × (start ≤ length (now text))) ⌝ }
+{
+    let mut table: [i32; 1536] = [0; 1536];
+    let read = rows::read_table(text, held[ZONE], line + 1, &mut table);
+    if !read.right {
+        return false;
+    }
+    if word.place <= FRAMES {
+        return true;
+    }
+    io::write_all(1, &text[line..start]);
+    let words = read.count;
+    let right = asking::ask(text, word, held, &table[0..words]);
+    io::write_all(1, b"\n");
+    right
+}
+
+fn obey_all(text: &[u8]) {
+    let mut held: [usize; 11] = [text.len(); 11];
+    let mut at: usize = 0;
+    let mut line: u64 = 1;
+    while at < text.len() {
+        let start = lines::name_end(text, at);
+        let word = word_at(text, start);
+        keep(&mut held, word);
+        if !obey(text, at, start, word, &held) {
+            lines::fault(line);
+            return;
+        }
+        at = lines::next_line(text, at);
+        line += 1;
+    }
+}
+
+// Answers every line of a file.
+pub fn answer_file(name: &[u8]) {
+    let mut text = io::large_buffer();
+    let size = lines::read_file(name, &mut text);
+    obey_all(&text[..size]);
+}

@@ -1,2 +1,0 @@
--- What the contracts say of a tally.
-pub mod Tallies
