@@ -10,7 +10,7 @@ ghost use lib.ListN.{length};
 ghost use Rattle.rules.specs.Table.{primitives};
 ghost use Rattle.rules.specs.Verdict.{tableRefusal};
 ghost use Rattle.rules.specs.ListWords.{placeOf};
-ghost use Rattle.rules.specs.ListCalls.{windowRefusal, ListMade};
+ghost use Rattle.rules.specs.ListCalls.{mostChoices, windowRefusal, ListMade};
 ghost use Rattle.laws.specs.Plans.{count};
 ghost use Rattle.laws.specs.Sound.{Sound};
 ghost use Rattle.choice.specs.Steps.{Numbered, rootPlan};
@@ -28,7 +28,7 @@ fn measure(
     ways: u64,
 ) -> usize
     requires { ⌜ SoundRows (now links) (now masks) end ⌝ }
-    requires { ⌜ (length (walkAt (now links) (now masks) end (startOf seen)) ≤ ways) × (ways ≤ 65536) ⌝ }
+    requires { ⌜ (length (walkAt (now links) (now masks) end (startOf seen)) ≤ ways) × (ways ≤ mostChoices) ⌝ }
     ensures { λ r. ⌜ Measured (placeOf (length (walkAt (now (links .entry)) (now (masks .entry)) end (startOf seen)))) (length (now (list .entry))) r × (now (list .exit) ≡ now (list .entry)) ⌝ }
 {
     let most = rules::HEADER_WORDS + rules::PRODUCT_WORDS * (ways as usize);
@@ -49,7 +49,7 @@ fn make_of(
 ) -> Written
     requires { ⌜ (tableRefusal (now table) ≡ none) × (windowRefusal w ≡ none) ⌝ }
     requires { ⌜ Numbered (now table) (now bits) × (solids ≡ length (primitives (now table))) ⌝ }
-    requires { ⌜ (ways ≡ count (rootPlan (now table))) × (ways ≤ 65536) ⌝ }
+    requires { ⌜ (ways ≡ count (rootPlan (now table))) × (ways ≤ mostChoices) ⌝ }
     ensures { λ r. ⌜ ListMade (now (table .entry)) w (now (list .entry)) (now (list .exit)) r ⌝ }
 {
     let seen = reach::seen_in(table, w);
@@ -86,7 +86,7 @@ fn make_for(list: &mut [u64], table: &[i32], w: Window) -> Written
     let mut bits: [u64; 127] = [0; 127];
     let solids = choice::number_rows(&mut bits, table);
     let ways = ways_of(table, &bits);
-    if 65536 < ways {
+    if rules::MOST_CHOICES < ways {
         return Written::Refused(Refusal {
             number: 7,
             value: ways,

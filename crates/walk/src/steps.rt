@@ -8,6 +8,7 @@ ghost use mathlib.Core.List.{_∷_};
 ghost use mathlib.Core.Path.{_≡_};
 ghost use lib.ListN.{length};
 ghost use Rattle.rules.specs.ListWords.{placeOf};
+ghost use Rattle.rules.specs.ListCalls.{mostChoices};
 ghost use Rattle.rows.specs.Rows.{InRows, SoundRows};
 ghost use Rattle.places.specs.Places.{placesOf};
 ghost use Rattle.walk.specs.Tracks.{agedAt, openAt, endOf, walkAt, startOf, Held, Goes, Put};
@@ -72,7 +73,7 @@ fn finish(
     keeps: bool,
 ) -> usize
     requires { ⌜ SoundRows (now links) (now masks) end ⌝ }
-    requires { ⌜ count + length (endOf (now links) (now masks) end at) ≤ 65536 ⌝ }
+    requires { ⌜ count + length (endOf (now links) (now masks) end at) ≤ mostChoices ⌝ }
     requires { ⌜ (keeps ≡ true → placeOf (count + length (endOf (now links) (now masks) end at)) ≤ length (now list)) ⌝ }
     ensures { λ r. ⌜ Put keeps (now (list .entry)) (now (list .exit)) count r (endOf (now (links .entry)) (now (masks .entry)) end at) ⌝ }
 {
@@ -104,7 +105,7 @@ pub fn walk(
     keeps: bool,
 ) -> usize
     requires { ⌜ SoundRows (now links) (now masks) end ⌝ }
-    requires { ⌜ length (walkAt (now links) (now masks) end (startOf seen)) ≤ 65536 ⌝ }
+    requires { ⌜ length (walkAt (now links) (now masks) end (startOf seen)) ≤ mostChoices ⌝ }
     requires { ⌜ (keeps ≡ true → placeOf (length (walkAt (now links) (now masks) end (startOf seen))) ≤ length (now list)) ⌝ }
     ensures { λ r. ⌜ Put keeps (now (list .entry)) (now (list .exit)) 0 r (walkAt (now (links .entry)) (now (masks .entry)) end (startOf seen)) ⌝ }
 {

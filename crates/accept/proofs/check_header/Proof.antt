@@ -32,11 +32,16 @@ first-of-requires-4 c κs = search needs
 
 returns : tie.Need-returns
 returns c =
-    let a = c .before .before .before .before in
-    header-by (c .before .before .before .before .before .before .before .before .before .before .args .list .now)
-    (a .before .before .before .before .check-bounds .ensures) (a .before .before .before .check-primitives .ensures) (a .before .before .first-of .ensures)
-    (a .before .check-bounds2 .ensures) (a .first-of2 .ensures)
-    (c .before .before .before .check-bounds3 .ensures) (c .before .before .first-of3 .ensures) (c .before .check-count .ensures) (c .first-of4 .ensures)
+    let at-check-bounds3 = c .before .before .before in
+    let a = at-check-bounds3 .before in
+    let at-check-bounds2 = a .before in
+    let at-first-of = at-check-bounds2 .before in
+    let at-check-primitives = at-first-of .before in
+    let at-check-bounds = at-check-primitives .before in
+    header-by (at-check-bounds .before .before .args .list .now)
+    (at-check-bounds .check-bounds .ensures) (at-check-primitives .check-primitives .ensures) (at-first-of .first-of .ensures)
+    (at-check-bounds2 .check-bounds2 .ensures) (a .first-of2 .ensures)
+    (at-check-bounds3 .check-bounds3 .ensures) (c .before .before .first-of3 .ensures) (c .before .check-count .ensures) (c .first-of4 .ensures)
 
 pub check-header-spec : {M : Type 1} → statement M
 check-header-spec =

@@ -1,3 +1,5 @@
+use Prim.Native.Nat.{ℕ}
+use mathlib.Core.List.{List}
 use mathlib.Core.Option.{none}
 use mathlib.Core.Path.{_≡_, sym, _∙_}
 use borrow.Author.Needs.{needs}
@@ -12,14 +14,15 @@ use Rattle.accept.proofs.Calls.{too-short, header-refused, header-passe
 use Rattle.accept.proofs.check_list.Statement.{statement}
 use Rattle.accept.proofs.check_list.Tie as tie
 
--- the header was let through
-passed : (c : tie.After-enum-told) → firstOf (headerRefusals (c .before .before .before .before .before .args .list .now)) ≡ none
-passed c =
-    let s = c .before .before .before .before .before in
-    went-on (firstOf (headerRefusals (s .args .list .now))) (sym (c .enum-told .given .1) ∙ c .before .before .check-header .ensures)
+-- the list that was lent, once its header was let through
+abbrev lent : tie.After-enum-told → List ℕ
+lent c = let at-check-header = c .before .before in at-check-header .before .before .before .args .list .now
 
-sound : (c : tie.After-enum-told) → SoundHeader (c .before .before .before .before .before .args .list .now)
-sound c = header-sound (c .before .before .before .before .before .args .list .now) (passed c)
+passed : (c : tie.After-enum-told) → firstOf (headerRefusals (lent c)) ≡ none
+passed c = went-on (firstOf (headerRefusals (lent c))) (sym (c .enum-told .given .1) ∙ c .before .before .check-header .ensures)
+
+sound : (c : tie.After-enum-told) → SoundHeader (lent c)
+sound c = header-sound (lent c) (passed c)
 
 refused-requires : tie.Need-refused-requires
 refused-requires c κs = search needs

@@ -37,11 +37,12 @@ first-of-requires c κs = search needs
 
 returns : tie.Need-returns
 returns c =
-    let s = c .before .before .before .before .before .before in
+    let at-refuse-if = c .before .before in
+    let s = at-refuse-if .before .before .before .before in
     let lo = word (s .args .list .now) (s .args .i) in
     let hi = word (s .args .list .now) (s .args .i + 1) in
     one-two (refuseIf (ltb (s .args .most) lo) 9 (s .args .i)) (refuseIf (ltb (s .args .most) hi || ltb hi lo) 9 (s .args .i + 1))
-    (c .before .before .refuse-if .ensures) (c .before .refuse-if2 .ensures) (c .first-of .ensures)
+    (at-refuse-if .refuse-if .ensures) (c .before .refuse-if2 .ensures) (c .first-of .ensures)
 
 pub check-words-spec : {M : Type 1} → statement M
 check-words-spec =

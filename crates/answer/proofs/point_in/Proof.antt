@@ -20,7 +20,8 @@ placed c =
 
 in-window : (c : tie.After-enum-told) → let s = c .before .before .before .before .before in pointRefusal (listWindow (s .args .list .now)) (s .args .p) ≡ none
 in-window c =
-    let s = c .before .before .before .before .before in
+    let at-window-of = c .before .before .before in
+    let s = at-window-of .before .before in
     went-on (pointRefusal (listWindow (s .args .list .now)) (s .args .p)) (sym (c .enum-told .given .1) ∙ placed (c .before .before))
 
 window-of-requires : tie.Need-window-of-requires
@@ -37,7 +38,8 @@ enum-told c = search needs
 
 list-inside-requires : tie.Need-list-inside-requires
 list-inside-requires c κs =
-    let s = c .before .before .before .before .before in
+    let at-window-of = c .before .before .before in
+    let s = at-window-of .before .before in
     let list = s .args .list .now in
     (s .pre, list-window-in-range list (list-sound list (s .pre .list-right) .header) (s .args .p) (point-holds (listWindow list) (s .args .p) (in-window c)))
 
@@ -51,13 +53,15 @@ returns c =
 returns-2 : tie.Need-returns-2
 returns-2 c =
     let d = c .before .before in
-    let s = d .before .before .before .before .before in
+    let at-window-of = d .before .before .before in
+    let s = at-window-of .before .before in
     point-inside (s .args .table .now) (s .args .list .now) (s .args .p) (s .pre) (in-window d) (sym (c .before .list-inside .ensures) ∙ c .if1 .taken)
 
 returns-3 : tie.Need-returns-3
 returns-3 c =
     let d = c .before .before in
-    let s = d .before .before .before .before .before in
+    let at-window-of = d .before .before .before in
+    let s = at-window-of .before .before in
     point-outside (s .args .table .now) (s .args .list .now) (s .args .p) (s .pre) (in-window d) (sym (c .before .list-inside .ensures) ∙ c .if1 .left)
 
 pub point-in-spec : {M : Type 1} → statement M

@@ -29,7 +29,9 @@ enum-told : tie.Need-enum-told
 enum-told c = search needs
 
 scan-requires : tie.Need-scan-requires
-scan-requires c κs = c .before .before .before .before .before .pre
+scan-requires c κs =
+    let at-window-of = c .before .before .before in
+    at-window-of .before .before .pre
 
 answer-requires : tie.Need-answer-requires
 answer-requires c κs = search needs

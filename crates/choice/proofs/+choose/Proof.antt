@@ -51,29 +51,39 @@ choose-enum-known-step-3 t c = search needs
 
 choose-count-ways-requires : (t : ℕ) → choose-lts.Need-count-ways-requires (told t) (choose-at t) choose.Post
 choose-count-ways-requires t c κs =
-    let s = c .before .before .before .before .before in
-    let i = as-step _ _ _ (c .before .before .before .before .read-step .ensures) (c .before .before .step3 .given .1) in
+    let at-read-step = c .before .before .before .before in
+    let s = at-read-step .before in
+    let i = as-step _ _ _ (at-read-step .read-step .ensures) (c .before .before .step3 .given .1) in
     (s .pre .1 .0, (omega (arith, s .pre .1 .1 .0, i .1), (s .pre .1 .1 .1 .0, s .pre .1 .1 .1 .1 .0)))
 
 choose-choose-requires : (t : ℕ) → choose-lts.Need-choose-requires (told t) (choose-at t) choose.Post
 choose-choose-requires t c κs =
-    let s = c .before .before .before .before .before .before .before .before in
-    let i = as-step _ _ _ (c .before .before .before .before .before .before .before .read-step .ensures) (c .before .before .before .before .before .step3 .given .1) in
-    let n = c .before .before .count-ways .ensures in
+    let at-count-ways = c .before .before in
+    let at-step3 = at-count-ways .before .before .before in
+    let at-read-step = at-step3 .before .before in
+    let s = at-read-step .before in
+    let i = as-step _ _ _ (at-read-step .read-step .ensures) (at-step3 .step3 .given .1) in
+    let n = at-count-ways .count-ways .ensures in
     asks (s .pre) (i .1) (s .pre .1 .1 .1 .0, (n .1, left-fits (i .0) (n .0) (s .args .k) (c .before .if1 .taken)))
 
 choose-returns : (t : ℕ) → choose-lts.Need-returns (told t) (choose-at t) choose.Post
 choose-returns t c =
-    let s = c .before .before .before .before .before .before .before .before .before in
-    let i = as-step _ _ _ (c .before .before .before .before .before .before .before .before .read-step .ensures) (c .before .before .before .before .before .before .step3 .given .1) in
-    let n = c .before .before .before .count-ways .ensures in
+    let at-count-ways = c .before .before .before in
+    let at-step3 = at-count-ways .before .before .before in
+    let at-read-step = at-step3 .before .before in
+    let s = at-read-step .before in
+    let i = as-step _ _ _ (at-read-step .read-step .ensures) (at-step3 .step3 .given .1) in
+    let n = at-count-ways .count-ways .ensures in
     (c .choose .ensures .0 ∙ kth-left (i .0) (n .0) (s .args .k) (c .before .before .if1 .taken), c .choose .ensures .1)
 
 choose-choose-requires-2 : (t : ℕ) → choose-lts.Need-choose-requires-2 (told t) (choose-at t) choose.Post
 choose-choose-requires-2 t c κs =
-    let s = c .before .before .before .before .before .before .before .before in
-    let i = as-step _ _ _ (c .before .before .before .before .before .before .before .read-step .ensures) (c .before .before .before .before .before .step3 .given .1) in
-    let n = c .before .before .count-ways .ensures in
+    let at-count-ways = c .before .before in
+    let at-step3 = at-count-ways .before .before .before in
+    let at-read-step = at-step3 .before .before in
+    let s = at-read-step .before in
+    let i = as-step _ _ _ (at-read-step .read-step .ensures) (at-step3 .step3 .given .1) in
+    let n = at-count-ways .count-ways .ensures in
     asks (s .pre) (i .2) (s .pre .1 .1 .1 .0, (n .1, right-fits (i .0) (n .0) (s .args .k) (s .pre .1 .1 .1 .1 .1) (c .before .if1 .left)))
 
 choose-enum-known-step-4 : (t : ℕ) → choose-lts.Need-enum-known-step-4 (told t) (choose-at t) choose.Post
@@ -81,34 +91,45 @@ choose-enum-known-step-4 t c = search needs
 
 choose-count-ways-requires-2 : (t : ℕ) → choose-lts.Need-count-ways-requires-2 (told t) (choose-at t) choose.Post
 choose-count-ways-requires-2 t c κs =
-    let s = c .before .before .before .before .before in
-    let i = as-step _ _ _ (c .before .before .before .before .read-step .ensures) (c .before .before .step4 .given .1) in
+    let at-read-step = c .before .before .before .before in
+    let s = at-read-step .before in
+    let i = as-step _ _ _ (at-read-step .read-step .ensures) (c .before .before .step4 .given .1) in
     (s .pre .1 .0, (omega (arith, s .pre .1 .1 .0, i .1), (s .pre .1 .1 .1 .0, s .pre .1 .1 .1 .1 .0)))
 
 choose-rem-choose : (t : ℕ) → choose-lts.Need-rem-choose (told t) (choose-at t) choose.Post
 choose-rem-choose t c =
-    let s = c .before .before .before .before .before .before .before in
-    let i = as-step _ _ _ (c .before .before .before .before .before .before .read-step .ensures) (c .before .before .before .before .step4 .given .1) in
+    let at-step4 = c .before .before .before .before in
+    let at-read-step = at-step4 .before .before in
+    let s = at-read-step .before in
+    let i = as-step _ _ _ (at-read-step .read-step .ensures) (at-step4 .step4 .given .1) in
     left-ways (i .0) (c .before .count-ways2 .ensures .0) (s .args .k) (s .pre .1 .1 .1 .1 .1)
 
 choose-choose-requires-3 : (t : ℕ) → choose-lts.Need-choose-requires-3 (told t) (choose-at t) choose.Post
 choose-choose-requires-3 t c κs =
-    let s = c .before .before .before .before .before .before .before in
-    let i = as-step _ _ _ (c .before .before .before .before .before .before .read-step .ensures) (c .before .before .before .before .step4 .given .1) in
+    let at-step4 = c .before .before .before .before in
+    let at-read-step = at-step4 .before .before in
+    let s = at-read-step .before in
+    let i = as-step _ _ _ (at-read-step .read-step .ensures) (at-step4 .step4 .given .1) in
     let n = c .before .count-ways2 .ensures in
     asks (s .pre) (i .1) (s .pre .1 .1 .1 .0, (n .1, low-fits (i .0) (n .0) (s .args .k) (s .pre .1 .1 .1 .1 .1)))
 
 choose-div-choose : (t : ℕ) → choose-lts.Need-div-choose (told t) (choose-at t) choose.Post
 choose-div-choose t c =
-    let s = c .before .before .before .before .before .before .before .before .before in
-    let i = as-step _ _ _ (c .before .before .before .before .before .before .before .before .read-step .ensures) (c .before .before .before .before .before .before .step4 .given .1) in
-    left-ways (i .0) (c .before .before .before .count-ways2 .ensures .0) (s .args .k) (s .pre .1 .1 .1 .1 .1)
+    let at-count-ways2 = c .before .before .before in
+    let at-step4 = at-count-ways2 .before .before .before in
+    let at-read-step = at-step4 .before .before in
+    let s = at-read-step .before in
+    let i = as-step _ _ _ (at-read-step .read-step .ensures) (at-step4 .step4 .given .1) in
+    left-ways (i .0) (at-count-ways2 .count-ways2 .ensures .0) (s .args .k) (s .pre .1 .1 .1 .1 .1)
 
 choose-choose-requires-4 : (t : ℕ) → choose-lts.Need-choose-requires-4 (told t) (choose-at t) choose.Post
 choose-choose-requires-4 t c κs =
-    let s = c .before .before .before .before .before .before .before .before .before in
-    let i = as-step _ _ _ (c .before .before .before .before .before .before .before .before .read-step .ensures) (c .before .before .before .before .before .before .step4 .given .1) in
-    let n = c .before .before .before .count-ways2 .ensures in
+    let at-count-ways2 = c .before .before .before in
+    let at-step4 = at-count-ways2 .before .before .before in
+    let at-read-step = at-step4 .before .before in
+    let s = at-read-step .before in
+    let i = as-step _ _ _ (at-read-step .read-step .ensures) (at-step4 .step4 .given .1) in
+    let n = at-count-ways2 .count-ways2 .ensures in
     asks (s .pre) (i .2) (s .pre .1 .1 .1 .0, (c .before .choose3 .ensures .1, high-fits (i .0) (n .0) (s .args .k) (s .pre .1 .1 .1 .1 .1)))
 
 choose-together-requires : (t : ℕ) → choose-lts.Need-together-requires (told t) (choose-at t) choose.Post
@@ -128,17 +149,24 @@ choose-returns-3 t c =
 
 choose-returns-4 : (t : ℕ) → choose-lts.Need-returns-4 (told t) (choose-at t) choose.Post
 choose-returns-4 t c =
-    let s = c .before .before .before .before .before .before .before .before .before in
-    let i = as-step _ _ _ (c .before .before .before .before .before .before .before .before .read-step .ensures) (c .before .before .before .before .before .before .step3 .given .1) in
-    let n = c .before .before .before .count-ways .ensures in
+    let at-count-ways = c .before .before .before in
+    let at-step3 = at-count-ways .before .before .before in
+    let at-read-step = at-step3 .before .before in
+    let s = at-read-step .before in
+    let i = as-step _ _ _ (at-read-step .read-step .ensures) (at-step3 .step3 .given .1) in
+    let n = at-count-ways .count-ways .ensures in
     (c .choose2 .ensures .0 ∙ kth-right (i .0) (n .0) (s .args .k) (c .before .before .if1 .left), c .choose2 .ensures .1)
 
 choose-returns-5 : (t : ℕ) → choose-lts.Need-returns-5 (told t) (choose-at t) choose.Post
 choose-returns-5 t c =
-    let s = c .before .before .before .before .before .before .before .before .before .before .before in
-    let i = as-step _ _ _ (c .before .before .before .before .before .before .before .before .before .before .read-step .ensures) (c .before .before .before .before .before .before .before .before .step4 .given .1) in
-    let n = c .before .before .before .before .before .count-ways2 .ensures in
-    (c .together .ensures ∙ kth-both (i .0) (n .0) (s .args .k) (c .before .before .before .choose3 .ensures .0) (c .before .choose4 .ensures .0), c .before .choose4 .ensures .1)
+    let at-choose3 = c .before .before .before in
+    let at-count-ways2 = at-choose3 .before .before in
+    let at-step4 = at-count-ways2 .before .before .before in
+    let at-read-step = at-step4 .before .before in
+    let s = at-read-step .before in
+    let i = as-step _ _ _ (at-read-step .read-step .ensures) (at-step4 .step4 .given .1) in
+    let n = at-count-ways2 .count-ways2 .ensures in
+    (c .together .ensures ∙ kth-both (i .0) (n .0) (s .args .k) (at-choose3 .choose3 .ensures .0) (c .before .choose4 .ensures .0), c .before .choose4 .ensures .1)
 
 pub +choose-spec : {M : Type 1} → statement M
 +choose-spec = close μ-choose λ t. choose-lts.spec (told t)

@@ -38,7 +38,10 @@ loop-less : tie.Need-loop-less Inv-loop μ-loop
 loop-less c = omega arith
 
 loop-again : tie.Need-loop-again Inv-loop μ-loop
-loop-again c = filling-more (c .before .before .before .before .before .pre .0) (c .before .before .before .before .loop .inv) (c .before .before .before .loop-test .taken) (c .fill-row .ensures .0) (c .fill-row .ensures .1)
+loop-again c =
+    let in-loop = c .before .before .before in
+    let at-loop = in-loop .before in
+    filling-more (at-loop .before .pre .0) (at-loop .loop .inv) (in-loop .loop-test .taken) (c .fill-row .ensures .0) (c .fill-row .ensures .1)
 
 returns : tie.Need-returns Inv-loop μ-loop
 returns c =

@@ -40,8 +40,13 @@ put-masks-requires c κs = search needs
 
 returns : tie.Need-returns
 returns c =
-    let s = c .before .before .before .before .before .before .before .before .before .before .before .before .before .before in
-    c .put-masks .ensures ∙ (λ i. sets (s .args .masks .now) (s .args .row * 3) (bitOr (c .before .before .before .before .before .before .before .before .before .before .before .before .below .ensures i) (c .before .before .before .before .before .before .before .before .before .before .below2 .ensures i) ∷ bitAnd (c .before .before .before .before .before .before .before .before .span .ensures i) (c .before .before .before .before .before .before .span2 .ensures i) ∷ bitOr (c .before .before .before .before .risk .ensures i) (c .before .before .risk2 .ensures i) ∷ []))
+    let at-risk = c .before .before .before .before in
+    let at-span2 = at-risk .before .before in
+    let at-span = at-span2 .before .before in
+    let at-below2 = at-span .before .before in
+    let at-below = at-below2 .before .before in
+    let s = at-below .before .before in
+    c .put-masks .ensures ∙ (λ i. sets (s .args .masks .now) (s .args .row * 3) (bitOr (at-below .below .ensures i) (at-below2 .below2 .ensures i) ∷ bitAnd (at-span .span .ensures i) (at-span2 .span2 .ensures i) ∷ bitOr (at-risk .risk .ensures i) (c .before .before .risk2 .ensures i) ∷ []))
 
 pub fill-both-spec : {M : Type 1} → statement M
 fill-both-spec =

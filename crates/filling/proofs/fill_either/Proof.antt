@@ -45,10 +45,16 @@ put-masks-requires c κs = search needs
 
 returns : tie.Need-returns
 returns c =
-    let s = c .before .before .before .before .before .before .before .before .before .before .before .before .before .before .before in
+    let at-risk = c .before .before .before .before in
+    let at-span2 = at-risk .before .before in
+    let at-span = at-span2 .before .before in
+    let at-below2 = at-span .before .before in
+    let at-only-if = at-below2 .before .before in
+    let at-below = at-only-if .before in
+    let s = at-below .before .before in
     c .put-masks .ensures
-    ∙ (λ i. sets (s .args .masks .now) (s .args .row * 3) (bitOr (c .before .before .before .before .before .before .before .before .before .before .below2 .ensures i) (c .before .before .before .before .before .before .before .before .before .before .before .before .before .below .ensures i) ∷ bitOr (c .before .before .before .before .before .before .before .before .span .ensures i) (c .before .before .before .before .before .before .span2 .ensures i) ∷ bitOr (c .before .before .before .before .before .before .before .before .before .before .before .before .only-if .ensures i) (bitOr (c .before .before .before .before .risk .ensures i) (c .before .before .risk2 .ensures i)) ∷ []))
-    ∙ ap (λ (m : ℕ). sets (s .args .masks .now) (s .args .row * 3) (bitOr (belowAt (s .args .masks .now) (s .args .left)) (belowAt (s .args .masks .now) (s .args .row + 1)) ∷ bitOr (spanAt (s .args .masks .now) (s .args .left)) (spanAt (s .args .masks .now) (s .args .row + 1)) ∷ bitOr (if_then_else_ (s .args .hollow) m 0) (bitOr (riskAt (s .args .masks .now) (s .args .left)) (riskAt (s .args .masks .now) (s .args .row + 1))) ∷ [])) (c .before .before .before .before .before .before .before .before .before .before .before .before .before .below .ensures)
+    ∙ (λ i. sets (s .args .masks .now) (s .args .row * 3) (bitOr (at-below2 .below2 .ensures i) (at-below .below .ensures i) ∷ bitOr (at-span .span .ensures i) (at-span2 .span2 .ensures i) ∷ bitOr (at-only-if .only-if .ensures i) (bitOr (at-risk .risk .ensures i) (c .before .before .risk2 .ensures i)) ∷ []))
+    ∙ ap (λ (m : ℕ). sets (s .args .masks .now) (s .args .row * 3) (bitOr (belowAt (s .args .masks .now) (s .args .left)) (belowAt (s .args .masks .now) (s .args .row + 1)) ∷ bitOr (spanAt (s .args .masks .now) (s .args .left)) (spanAt (s .args .masks .now) (s .args .row + 1)) ∷ bitOr (if_then_else_ (s .args .hollow) m 0) (bitOr (riskAt (s .args .masks .now) (s .args .left)) (riskAt (s .args .masks .now) (s .args .row + 1))) ∷ [])) (at-below .below .ensures)
 
 pub fill-either-spec : {M : Type 1} → statement M
 fill-either-spec =

@@ -45,8 +45,12 @@ element-write-holes-2 c = search needs
 
 returns-2 : tie.Need-returns-2
 returns-2 c =
-    let s = c .before .before .before .before .before .before .before .before in
-    let f = either-filled (s .args .links .now) (s .args .holes .now) (s .args .masks .now) (s .args .row) (c .before .before .before .before .before .before .before .kind .ensures) (c .before .before .before .before .before .left .ensures) (c .before .before .before .before .before .before .if1 .left) (c .before .before .if2 .taken) in
+    let at-one = c .before .before .before .before in
+    let at-left = at-one .before in
+    let else1 = at-left .before in
+    let at-kind = else1 .before in
+    let s = at-kind .before in
+    let f = either-filled (s .args .links .now) (s .args .holes .now) (s .args .masks .now) (s .args .row) (at-kind .kind .ensures) (at-left .left .ensures) (else1 .if1 .left) (c .before .before .if2 .taken) in
     (c .fill-either .ensures ∙ f .0, f .1)
 
 fill-both-requires : tie.Need-fill-both-requires
@@ -59,8 +63,12 @@ element-write-holes-3 c = search needs
 
 returns-3 : tie.Need-returns-3
 returns-3 c =
-    let s = c .before .before .before .before .before .before .before .before in
-    let f = both-filled (s .args .links .now) (s .args .holes .now) (s .args .masks .now) (s .args .row) (c .before .before .before .before .before .before .before .kind .ensures) (c .before .before .before .before .before .left .ensures) (c .before .before .before .before .before .before .if1 .left) (c .before .before .if2 .left) in
+    let at-one = c .before .before .before .before in
+    let at-left = at-one .before in
+    let else1 = at-left .before in
+    let at-kind = else1 .before in
+    let s = at-kind .before in
+    let f = both-filled (s .args .links .now) (s .args .holes .now) (s .args .masks .now) (s .args .row) (at-kind .kind .ensures) (at-left .left .ensures) (else1 .if1 .left) (c .before .before .if2 .left) in
     (c .fill-both .ensures ∙ f .0, f .1)
 
 pub fill-row-spec : {M : Type 1} → statement M

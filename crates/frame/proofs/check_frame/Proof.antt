@@ -25,7 +25,8 @@ refused-requires c κs = search needs
 
 frame-told : (c : tie.After-in-range) → c .in-range .result ≡ within frames (c .before .before .before .before .before .before .args .place .frame)
 frame-told c =
-    let s = c .before .before .before .before .before .before in
+    let at-columns-right = c .before .before .before in
+    let s = at-columns-right .before .before .before in
     let f : SFits w32 (s .args .place .frame) = search needs in
     c .in-range .ensures ∙ ap (within frames) (toZ-ofZ w32 (s .args .place .frame) f)
 

@@ -13,7 +13,9 @@ use Rattle.laying.proofs.lay.Statement.{statement}
 use Rattle.laying.proofs.lay.Tie as tie
 
 -- the root's rows are all
-all-rows : (w : tie.After-wide) → w .wide .result ≡ allRows (w .before .before .before .before .before .before .before .args .table .now)
+all-rows : (w : tie.After-wide) →
+    let r = w .before .before .before .before in
+    w .wide .result ≡ allRows (r .before .before .before .args .table .now)
 all-rows w =
     let r = w .before .before .before .before in
     let s = r .before .before .before in
@@ -52,16 +54,20 @@ lay-rows-requires c κs =
 
 fill-requires : tie.Need-fill-requires
 fill-requires c κs =
-    let w = c .before .before .before .before .before .before in
-    let s = w .before .before .before .before .before .before .before in
-    let laying = c .before .before .lay-rows .ensures in
+    let at-lay-rows = c .before .before in
+    let w = at-lay-rows .before .before .before .before in
+    let at-root = w .before .before .before .before in
+    let s = at-root .before .before .before in
+    let laying = at-lay-rows .lay-rows .ensures in
     (links-sound (s .args .table .now) (s .pre .0 .sound) (all-rows w) laying, laying .long-masks)
 
 returns : tie.Need-returns
 returns c =
-    let w = c .before .before .before .before .before .before .before in
-    let s = w .before .before .before .before .before .before .before in
-    laid (s .args .table .now) (s .pre .0 .sound) (all-rows w) (c .before .before .before .lay-rows .ensures) (c .fill .ensures)
+    let at-lay-rows = c .before .before .before in
+    let w = at-lay-rows .before .before .before .before in
+    let at-root = w .before .before .before .before in
+    let s = at-root .before .before .before in
+    laid (s .args .table .now) (s .pre .0 .sound) (all-rows w) (at-lay-rows .lay-rows .ensures) (c .fill .ensures)
 
 pub lay-spec : {M : Type 1} → statement M
 lay-spec =

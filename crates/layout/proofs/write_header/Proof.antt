@@ -51,54 +51,84 @@ raise-requires-2 c κs =
     reread w32 (within (range Column)) (fits s .xhi) (window-right (s .args .w) (s .pre .0) .x .hi-in)
 
 slice-write-list-3 : tie.Need-slice-write-list-3
-slice-write-list-3 c = simp length-set (omega (arith, c .before .before .before .before .before .pre .1))
+slice-write-list-3 c =
+    let at-raise = c .before .before in
+    simp length-set (omega (arith, at-raise .before .before .before .pre .1))
 
 raise-requires-3 : tie.Need-raise-requires-3
 raise-requires-3 c κs =
-    let s = c .before .before .before .before .before .before in
+    let at-raise = c .before .before .before in
+    let s = at-raise .before .before .before in
     reread w32 (within (range Code)) (fits s .ylo) (window-right (s .args .w) (s .pre .0) .y .lo-in)
 
 slice-write-list-4 : tie.Need-slice-write-list-4
-slice-write-list-4 c = simp length-set (omega (arith, c .before .before .before .before .before .before .before .pre .1))
+slice-write-list-4 c =
+    let at-raise = c .before .before .before .before in
+    simp length-set (omega (arith, at-raise .before .before .before .pre .1))
 
 raise-requires-4 : tie.Need-raise-requires-4
 raise-requires-4 c κs =
-    let s = c .before .before .before .before .before .before .before .before in
+    let at-raise2 = c .before .before .before in
+    let at-raise = at-raise2 .before .before in
+    let s = at-raise .before .before .before in
     reread w32 (within (range Code)) (fits s .yhi) (window-right (s .args .w) (s .pre .0) .y .hi-in)
 
 slice-write-list-5 : tie.Need-slice-write-list-5
-slice-write-list-5 c = simp length-set (omega (arith, c .before .before .before .before .before .before .before .before .before .pre .1))
+slice-write-list-5 c =
+    let at-raise2 = c .before .before .before .before in
+    let at-raise = at-raise2 .before .before in
+    simp length-set (omega (arith, at-raise .before .before .before .pre .1))
 
 raise-requires-5 : tie.Need-raise-requires-5
 raise-requires-5 c κs =
-    let s = c .before .before .before .before .before .before .before .before .before .before in
+    let at-raise3 = c .before .before .before in
+    let at-raise = at-raise3 .before .before .before .before in
+    let s = at-raise .before .before .before in
     reread w32 (within (range Frame)) (fits s .zlo) (window-right (s .args .w) (s .pre .0) .z .lo-in)
 
 slice-write-list-6 : tie.Need-slice-write-list-6
-slice-write-list-6 c = simp length-set (omega (arith, c .before .before .before .before .before .before .before .before .before .before .before .pre .1))
+slice-write-list-6 c =
+    let at-raise3 = c .before .before .before .before in
+    let at-raise = at-raise3 .before .before .before .before in
+    simp length-set (omega (arith, at-raise .before .before .before .pre .1))
 
 raise-requires-6 : tie.Need-raise-requires-6
 raise-requires-6 c κs =
-    let s = c .before .before .before .before .before .before .before .before .before .before .before .before in
+    let at-raise4 = c .before .before .before in
+    let at-raise2 = at-raise4 .before .before .before .before in
+    let at-raise = at-raise2 .before .before in
+    let s = at-raise .before .before .before in
     reread w32 (within (range Frame)) (fits s .zhi) (window-right (s .args .w) (s .pre .0) .z .hi-in)
 
 slice-write-list-7 : tie.Need-slice-write-list-7
-slice-write-list-7 c = simp length-set (omega (arith, c .before .before .before .before .before .before .before .before .before .before .before .before .before .pre .1))
+slice-write-list-7 c =
+    let at-raise4 = c .before .before .before .before in
+    let at-raise2 = at-raise4 .before .before .before .before in
+    let at-raise = at-raise2 .before .before in
+    simp length-set (omega (arith, at-raise .before .before .before .pre .1))
 
 slice-write-list-8 : tie.Need-slice-write-list-8
-slice-write-list-8 c = simp length-set (omega (arith, c .before .before .before .before .before .before .before .before .before .before .before .before .before .pre .1))
+slice-write-list-8 c =
+    let at-raise4 = c .before .before .before .before in
+    let at-raise2 = at-raise4 .before .before .before .before in
+    let at-raise = at-raise2 .before .before in
+    simp length-set (omega (arith, at-raise .before .before .before .pre .1))
 
 same-length : tie.Need-same-length
 same-length c = simp length-set
 
 returns : tie.Need-returns
 returns c =
-    let s = c .before .before .before .before .before .before .before .before .before .before .before .before .before in
+    let at-raise4 = c .before .before .before .before in
+    let at-raise3 = at-raise4 .before .before in
+    let at-raise2 = at-raise3 .before .before in
+    let at-raise = at-raise2 .before .before in
+    let s = at-raise .before .before .before in
     let f = fits s in
-    let xlo = lent Column (f .xlo) (c .before .before .before .before .before .before .before .before .before .before .raise .ensures) in
-    let xhi = lent Column (f .xhi) (c .before .before .before .before .before .before .before .before .raise2 .ensures) in
-    let ylo = lent Code (f .ylo) (c .before .before .before .before .before .before .raise3 .ensures) in
-    let yhi = lent Code (f .yhi) (c .before .before .before .before .raise4 .ensures) in
+    let xlo = lent Column (f .xlo) (at-raise .raise .ensures) in
+    let xhi = lent Column (f .xhi) (at-raise2 .raise2 .ensures) in
+    let ylo = lent Code (f .ylo) (at-raise3 .raise3 .ensures) in
+    let yhi = lent Code (f .yhi) (at-raise4 .raise4 .ensures) in
     let zlo = lent Frame (f .zlo) (c .before .before .raise5 .ensures) in
     let zhi = lent Frame (f .zhi) (c .raise6 .ensures) in
     λ i. sets (s .args .list .now) 0 (s .args .products ∷ xlo i ∷ xhi i ∷ ylo i ∷ yhi i ∷ zlo i ∷ zhi i ∷ s .args .primitives ∷ [])

@@ -20,13 +20,16 @@ ways-of-requires c κs = (sound (c .before .before .before .before), c .before .
 
 returns : tie.Need-returns
 returns c =
-    let s = c .before .before .before .before .before .before in
+    let at-number-rows = c .before .before .before in
+    let s = at-number-rows .before .before .before in
     made-many (s .args .table .now) (s .args .w) (s .args .list .now) (s .pre .0) (s .pre .1) (c .before .ways-of .ensures ∙ sym (expansion-ways (s .args .table .now))) (c .if1 .taken)
 
 make-of-requires : tie.Need-make-of-requires
 make-of-requires c κs =
-    let s = c .before .before .before .before .before .before .before .before in
-    (s .pre, ((c .before .before .before .before .before .number-rows .ensures .1, c .before .before .before .before .before .number-rows .ensures .0), (c .before .before .before .ways-of .ensures, c .before .before .if1 .left)))
+    let at-ways-of = c .before .before .before in
+    let at-number-rows = at-ways-of .before .before in
+    let s = at-number-rows .before .before .before in
+    (s .pre, ((at-number-rows .number-rows .ensures .1, at-number-rows .number-rows .ensures .0), (at-ways-of .ways-of .ensures, c .before .before .if1 .left)))
 
 same-length : tie.Need-same-length
 same-length c = search needs

@@ -8,7 +8,7 @@ use borrow.Author.Needs.{needs}
 use lib.ListN.{length, length-replicate}
 use lib.Seq.{sets}
 use Rattle.rules.specs.Choices.{expansion}
-use Rattle.rules.specs.ListCalls.{zoneList, ListMade}
+use Rattle.rules.specs.ListCalls.{mostChoices, zoneList, ListMade}
 use Rattle.rules.specs.ListWords.{headerWords, wordsOf, placeOf}
 use Rattle.rules.specs.Products.{products}
 use Rattle.rules.specs.Table.{primitives}
@@ -25,7 +25,7 @@ use Rattle.list.proofs.make_of.Tie as tie
 sound : (s : tie.Start) → Sound (s .args .table .now)
 sound s = table-sound (s .args .table .now) (s .pre .0 .0)
 
-not-many : (s : tie.Start) → expansion (treeOf (s .args .table .now)) ≤ 65536
+not-many : (s : tie.Start) → expansion (treeOf (s .args .table .now)) ≤ mostChoices
 not-many s = omega (arith, expansion-ways (s .args .table .now), s .pre .1 .1 .0, s .pre .1 .1 .1)
 
 -- what is walked from the rows is the zone's list of products
@@ -56,22 +56,26 @@ lay-requires c κs =
 measure-requires : tie.Need-measure-requires
 measure-requires c κs =
     let m = c .before .before .before in
-    (m .lay .ensures .sound, (all-few m, m .before .before .before .before .before .pre .1 .1 .1))
+    (m .lay .ensures .sound, (all-few m, (start m) .pre .1 .1 .1))
 
 same-length : tie.Need-same-length
 same-length c = search needs
 
 returns : tie.Need-returns
 returns c =
-    let s = c .before .before .before .before .before .before .before .before .before .before .before .before in
-    let m = c .before .before .before .before .before .before .before in
-    let same = c .before .before .before .measure .ensures .1 in
-    let short : length (s .args .list .now) < c .before .before .before .measure .result = omega (arith, c .if1 .taken, ap length same) in
-    subst (λ (l : List ℕ). ListMade (s .args .table .now) (s .args .w) (s .args .list .now) l (written.Refused (record { number = 8; value = c .before .before .before .measure .result }))) (sym same)
-    (made-room (s .args .table .now) (s .args .w) (s .args .list .now) (s .pre .0 .0) (s .pre .0 .1) (not-many s) (c .before .before .before .measure .ensures .0 .exact short ∙ all-words m) short)
+    let at-measure = c .before .before .before in
+    let m = at-measure .before .before .before .before in
+    let s = start m in
+    let same = at-measure .measure .ensures .1 in
+    let short : length (s .args .list .now) < at-measure .measure .result = omega (arith, c .if1 .taken, ap length same) in
+    subst (λ (l : List ℕ). ListMade (s .args .table .now) (s .args .w) (s .args .list .now) l (written.Refused (record { number = 8; value = at-measure .measure .result }))) (sym same)
+    (made-room (s .args .table .now) (s .args .w) (s .args .list .now) (s .pre .0 .0) (s .pre .0 .1) (not-many s) (at-measure .measure .ensures .0 .exact short ∙ all-words m) short)
 
 -- where the room is not too small, the list has room
-there : (r : tie.Else1) → placeOf (length (all (r .before .before .before .before .before .before .before))) ≤ length (r .before .before .before .before .before .before .before .before .before .before .before .before .args .list .now)
+there : (r : tie.Else1) →
+    let at-measure = r .before .before .before in
+    let m = at-measure .before .before .before .before in
+    placeOf (length (all m)) ≤ length (start m .args .list .now)
 there r =
     let measured = r .before .before .before .measure .ensures in
     measured .0 .enough (omega (arith, r .if1 .left, ap length (measured .1)))
@@ -79,31 +83,52 @@ there r =
 walk-requires : tie.Need-walk-requires
 walk-requires c κs =
     let r = c .before .before .before in
-    (c .before .before .before .before .before .before .before .before .before .before .lay .ensures .sound, (omega (arith, all-few (c .before .before .before .before .before .before .before .before .before .before), c .before .before .before .before .before .before .before .before .before .before .before .before .before .before .before .pre .1 .1 .1), λ k. omega (arith, there r, ap length (c .before .before .before .before .before .before .measure .ensures .1))))
+    let at-measure = r .before .before .before in
+    let at-lay = at-measure .before .before .before .before in
+    (at-lay .lay .ensures .sound, (omega (arith, all-few at-lay, (start at-lay) .pre .1 .1 .1), λ k. omega (arith, there r, ap length (at-measure .measure .ensures .1))))
 
 write-header-requires : tie.Need-write-header-requires
 write-header-requires c κs =
-    let r = c .before .before .before .before .before .before .before in
-    (c .before .before .before .before .before .before .before .before .before .before .before .before .before .before .before .before .before .before .before .pre .0 .1, omega (arith, there r, put-length true (c .before .before .before .walk .ensures), ap length (c .before .before .before .before .before .before .before .before .before .before .measure .ensures .1)))
+    let at-walk = c .before .before .before in
+    let r = at-walk .before .before .before .before in
+    let at-measure = r .before .before .before in
+    let at-lay = at-measure .before .before .before .before in
+    ((start at-lay) .pre .0 .1, omega (arith, there r, put-length true (at-walk .walk .ensures), ap length (at-measure .measure .ensures .1)))
 
 mul-t19 : tie.Need-mul-t19
-mul-t19 c = record { fits = omega (arith, c .before .before .before .before .before .before .walk .ensures .count, all-few (c .before .before .before .before .before .before .before .before .before .before .before .before .before .before .before .before .before), c .before .before .before .before .before .before .before .before .before .before .before .before .before .before .before .before .before .before .before .before .before .before .pre .1 .1 .1) }
+mul-t19 c =
+    let at-write-header = c .before .before in
+    let at-walk = at-write-header .before .before .before .before in
+    let else1 = at-walk .before .before .before .before in
+    let at-measure = else1 .before .before .before in
+    let at-lay = at-measure .before .before .before .before in
+    record { fits = omega (arith, at-walk .walk .ensures .count, all-few at-lay, (start at-lay) .pre .1 .1 .1) }
 
 add-t30 : tie.Need-add-t30
-add-t30 c = record { fits = omega (arith, c .before .before .before .before .before .before .walk .ensures .count, all-few (c .before .before .before .before .before .before .before .before .before .before .before .before .before .before .before .before .before), c .before .before .before .before .before .before .before .before .before .before .before .before .before .before .before .before .before .before .before .before .before .before .pre .1 .1 .1) }
+add-t30 c =
+    let at-write-header = c .before .before in
+    let at-walk = at-write-header .before .before .before .before in
+    let else1 = at-walk .before .before .before .before in
+    let at-measure = else1 .before .before .before in
+    let at-lay = at-measure .before .before .before .before in
+    record { fits = omega (arith, at-walk .walk .ensures .count, all-few at-lay, (start at-lay) .pre .1 .1 .1) }
 
 same-length-2 : tie.Need-same-length-2
 same-length-2 c = search needs
 
 returns-2 : tie.Need-returns-2
 returns-2 c =
-    let s = c .before .before .before .before .before .before .before .before .before .before .before .before .before .before .before .before .before .before .before .before .before .before in
-    let m = c .before .before .before .before .before .before .before .before .before .before .before .before .before .before .before .before .before in
-    let put = c .before .before .before .before .before .before .walk in
+    let at-write-header = c .before .before in
+    let at-walk = at-write-header .before .before .before .before in
+    let else1 = at-walk .before .before .before .before in
+    let at-measure = else1 .before .before .before in
+    let m = at-measure .before .before .before .before in
+    let s = start m in
+    let put = at-walk .walk in
     let n : put .result ≡ length (all m) = omega (arith, put .ensures .count) in
-    let now = put .ensures .words ∙ ap (λ (l : List ℕ). sets l headerWords (flatMap wordsOf (all m))) (c .before .before .before .before .before .before .before .before .before .before .before .before .before .measure .ensures .1) in
-    made-fine (s .args .table .now) (s .args .w) (s .args .list .now) (s .pre .0 .0) (s .pre .0 .1) (not-many s) (ap placeOf n ∙ all-words m) (omega (arith, n, there (c .before .before .before .before .before .before .before .before .before .before)))
-    (list-written (s .args .table .now) (s .args .w) (s .args .list .now) (all-products m) n (s .pre .1 .0 .1) (there (c .before .before .before .before .before .before .before .before .before .before)) now (c .before .before .write-header .ensures))
+    let now = put .ensures .words ∙ ap (λ (l : List ℕ). sets l headerWords (flatMap wordsOf (all m))) (at-measure .measure .ensures .1) in
+    made-fine (s .args .table .now) (s .args .w) (s .args .list .now) (s .pre .0 .0) (s .pre .0 .1) (not-many s) (ap placeOf n ∙ all-words m) (omega (arith, n, there else1))
+    (list-written (s .args .table .now) (s .args .w) (s .args .list .now) (all-products m) n (s .pre .1 .0 .1) (there else1) now (at-write-header .write-header .ensures))
 
 pub make-of-spec : {M : Type 1} → statement M
 make-of-spec =

@@ -37,8 +37,10 @@ part-same-end c = search needs
 
 array-share-prefix-own : tie.Need-array-share-prefix-own
 array-share-prefix-own c =
-    let put = c .before .before .put-number in
-    omega (arith, put .ensures .end, put .kept .0, few-bytes (handed (c .before .before .before .before .before)))
+    let at-put-number = c .before .before in
+    let s = at-put-number .before .before .before in
+    let put = at-put-number .put-number in
+    omega (arith, put .ensures .end, put .kept .0, few-bytes (handed s))
 
 slice-aggregate-same : tie.Need-slice-aggregate-same
 slice-aggregate-same c = sym (length-take-le _ _ (array-share-prefix-own (c .before)))
@@ -48,9 +50,10 @@ same-requires c κs = search needs
 
 returns : tie.Need-returns
 returns c =
-    let s = c .before .before .before .before .before .before .before in
+    let at-put-number = c .before .before .before .before in
+    let s = at-put-number .before .before .before in
     let lent = toZ-ofZ w32 (s .args .value) (s .fits .value) in
-    let own = put-taken (few-bytes (handed s)) (c .before .before .before .before .put-number .ensures) in
+    let own = put-taken (few-bytes (handed s)) (at-put-number .put-number .ensures) in
     let part = take (s .args .next - s .args .at) (drop (s .args .at) (s .args .text .now)) in
     record {
       value-is = lent;

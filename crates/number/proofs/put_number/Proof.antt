@@ -31,9 +31,11 @@ same-length c = c .before .before .put-decimal .kept .0 ∙ simp length-set
 
 returns : tie.Need-returns
 returns c =
-    let s = c .before .before .before .before .before .before .before in
-    let m = c .before .before .before .before .before .magnitude in
-    let text = with-minus (s .args .v) (s .fits .v) (m .ensures) (c .before .before .before .before .if1 .taken) in
+    let then1 = c .before .before .before .before in
+    let at-magnitude = then1 .before in
+    let s = at-magnitude .before .before in
+    let m = at-magnitude .magnitude in
+    let text = with-minus (s .args .v) (s .fits .v) (m .ensures) (then1 .if1 .taken) in
     put-same text (put-join (put-one minus (s .args .text .now) (s .args .at)) (c .before .before .put-decimal .ensures))
 
 put-decimal-requires-2 : tie.Need-put-decimal-requires-2
@@ -47,9 +49,11 @@ same-length-2 c = search needs
 
 returns-2 : tie.Need-returns-2
 returns-2 c =
-    let s = c .before .before .before .before .before .before .before in
-    let m = c .before .before .before .before .before .magnitude in
-    let text = without-minus (s .args .v) (s .fits .v) (m .ensures) (c .before .before .before .before .if1 .left) in
+    let else1 = c .before .before .before .before in
+    let at-magnitude = else1 .before in
+    let s = at-magnitude .before .before in
+    let m = at-magnitude .magnitude in
+    let text = without-minus (s .args .v) (s .fits .v) (m .ensures) (else1 .if1 .left) in
     put-same text (c .before .before .put-decimal2 .ensures)
 
 pub put-number-spec : {M : Type 1} → statement M

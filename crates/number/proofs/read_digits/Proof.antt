@@ -26,8 +26,10 @@ is-digit-requires c κs = search needs
 
 returns : tie.Need-returns Inv-loop μ-loop
 returns c =
-    let s = c .before .before .before .before .before .before .args in
-    let l = c .before .before .before .before .loop in
+    let at-loop = c .before .before .before .before in
+    let s = at-loop .before .before in
+    let s = s .args in
+    let l = at-loop .loop in
     let no-digit = sym (c .before .is-digit .ensures) ∙ not-true _ (c .if1 .taken) in
     sym (scan-stops (s .text .now) (l .value) (l .next) (omega arith) no-digit) ∙ l .inv .1
 
@@ -42,9 +44,12 @@ loop-less c = omega arith
 
 loop-again : tie.Need-loop-again Inv-loop μ-loop
 loop-again c =
-    let s = c .before .before .before .before .before .before .before .args in
-    let l = c .before .before .before .before .before .loop in
-    let digit = sym (c .before .before .is-digit .ensures) ∙ not-false _ (c .before .if1 .left) in
+    let at-is-digit = c .before .before in
+    let at-loop = at-is-digit .before .before .before in
+    let s = at-loop .before .before in
+    let s = s .args in
+    let l = at-loop .loop in
+    let digit = sym (at-is-digit .is-digit .ensures) ∙ not-false _ (c .before .if1 .left) in
     let more = scan-more (s .text .now) (l .value) (l .next) (omega arith) digit in
     let grows = ap (λ (v : ℕ). scanned v (l .next + 1) (drop (l .next + 1) (s .text .now))) (c .grow .ensures .0) in
     (c .grow .ensures .1, grows ∙ sym more ∙ l .inv .1)

@@ -26,17 +26,22 @@ negative-requires c κs = search needs
 
 confirm-requires : tie.Need-confirm-requires
 confirm-requires c κs =
-    let s = c .before .before .before .before .before .before .args in
-    let stops = run-stops (s .text .now) (s .at) (s .at + 1) (omega arith) (omega arith) (c .before .read-digits .ensures) in
+    let at-read-digits = c .before in
+    let else1 = at-read-digits .before .before .before in
+    let s = else1 .before .before in
+    let s = s .args in
+    let stops = run-stops (s .text .now) (s .at) (s .at + 1) (omega arith) (omega arith) (at-read-digits .read-digits .ensures) in
     (stops .after, stops .inside)
 
 returns-2 : tie.Need-returns-2
 returns-2 c =
-    let s = c .before .before .before .before .before .before .before .args in
+    let then2 = c .before .before .before in
+    let s = then2 .before .before .before .before in
+    let s = s .args in
     let run = c .before .before .read-digits .ensures in
     let guess = c .before .negative in
     let stops = run-stops (s .text .now) (s .at) (s .at + 1) (omega arith) (omega arith) run in
-    let found = found-below (s .text .now) (s .at) (c .before .before .before .if2 .taken) run (guess .ensures) in
+    let found = found-below (s .text .now) (s .at) (then2 .if2 .taken) run (guess .ensures) in
     confirmed-reads (s .text .now) (s .at) stops (guess .ok) found (c .confirm .ensures)
 
 read-digits-requires-2 : tie.Need-read-digits-requires-2
@@ -47,17 +52,21 @@ positive-requires c κs = search needs
 
 confirm-requires-2 : tie.Need-confirm-requires-2
 confirm-requires-2 c κs =
-    let s = c .before .before .before .before .before .before .args in
+    let else1 = c .before .before .before .before in
+    let s = else1 .before .before in
+    let s = s .args in
     let stops = run-stops (s .text .now) (s .at) (s .at) (omega arith) (omega arith) (c .before .read-digits2 .ensures) in
     (stops .after, stops .inside)
 
 returns-3 : tie.Need-returns-3
 returns-3 c =
-    let s = c .before .before .before .before .before .before .before .args in
+    let else2 = c .before .before .before in
+    let s = else2 .before .before .before .before in
+    let s = s .args in
     let run = c .before .before .read-digits2 .ensures in
     let guess = c .before .positive in
     let stops = run-stops (s .text .now) (s .at) (s .at) (omega arith) (omega arith) run in
-    let found = found-above (s .text .now) (s .at) (c .before .before .before .if2 .left) run (guess .ensures) in
+    let found = found-above (s .text .now) (s .at) (else2 .if2 .left) run (guess .ensures) in
     confirmed-reads (s .text .now) (s .at) stops (guess .ok) found (c .confirm2 .ensures)
 
 pub read-number-spec : {M : Type 1} → statement M

@@ -68,14 +68,16 @@ read-fields-same-length t c = ap length (c .before .read-fields .ensures .writte
 
 read-fields-returns-2 : (t : ℕ) → read-fields-lts.Need-returns-2 (told t) (read-fields-at t) read-fields.Post
 read-fields-returns-2 t c =
-    let s = c .before .before .before .before .before .before .before .before in
-    let field = c .before .before .before .before .before .read-field in
+    let then2 = c .before .before .before .before in
+    let at-read-field = then2 .before in
+    let s = at-read-field .before .before .before in
+    let field = at-read-field .read-field in
     let others = c .before .read-fields .ensures in
     let read-back : toZ w32 (ofZ w32 (field .result .value)) ≡ field .result .value = search needs in
     record {
       words = field .result .value ∷ others .words;
       reads =
-          fields-read (s .args .text .now) (s .args .at) (omega arith) (field .ensures) (c .before .before .before .before .if2 .taken)
+          fields-read (s .args .text .now) (s .args .at) (omega arith) (field .ensures) (then2 .if2 .taken)
           (others .reads);
       written = others .written ∙ (λ i. sets (set (s .args .table .now) (s .args .place) (read-back i)) (add-one (s .args .place) i) (others .words));
     }

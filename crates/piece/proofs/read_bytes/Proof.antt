@@ -29,8 +29,9 @@ same-requires c κs = search needs
 
 returns-2 : tie.Need-returns-2
 returns-2 c =
-    let s = c .before .before .before .before .before in
-    bytes-read (s .args .text .now) (s .args .at) (s .args .bytes .now) refl (part-same-end (c .before .before)) (c .same .ensures)
+    let else1 = c .before .before in
+    let s = else1 .before .before .before in
+    bytes-read (s .args .text .now) (s .args .at) (s .args .bytes .now) refl (part-same-end else1) (c .same .ensures)
 
 pub read-bytes-spec : {M : Type 1} → statement M
 read-bytes-spec =

@@ -14,8 +14,9 @@ read-number-requires c κs = search needs
 
 returns : tie.Need-returns
 returns c =
-    let s = c .before .before .before .before .before in
-    field-read (s .args .text .now) (s .args .at) (c .before .before .read-bytes .ensures) (c .before .if1 .taken) (c .read-number .ensures)
+    let at-read-bytes = c .before .before in
+    let s = at-read-bytes .before .before .before in
+    field-read (s .args .text .now) (s .args .at) (at-read-bytes .read-bytes .ensures) (c .before .if1 .taken) (c .read-number .ensures)
 
 returns-2 : tie.Need-returns-2
 returns-2 c =

@@ -20,16 +20,20 @@ read-bytes-requires-2 c κs = c .before .before .read-count .ensures .sound (c .
 
 returns : tie.Need-returns
 returns c =
-    let s = c .before .before .before .before .before .before .before .before in
-    let zone = c .before .before .before .before .before .read-bytes .ensures in
-    let count = c .before .before .before .read-count .ensures in
-    let begun = c .before .before .before .before .if1 .taken in
+    let at-read-count = c .before .before .before in
+    let then1 = at-read-count .before in
+    let at-read-bytes = then1 .before in
+    let s = at-read-bytes .before .before .before in
+    let zone = at-read-bytes .read-bytes .ensures in
+    let count = at-read-count .read-count .ensures in
+    let begun = then1 .if1 .taken in
     header-read (s .args .text .now) 0 zone count begun (c .before .before .if2 .taken) (c .read-bytes2 .ensures)
 
 returns-2 : tie.Need-returns-2
 returns-2 c =
-    let s = c .before .before .before .before .before .before in
-    wrong-count (s .args .text .now) 0 (c .before .before .before .read-bytes .ensures) (c .before .read-count .ensures) (c .if2 .left)
+    let at-read-bytes = c .before .before .before in
+    let s = at-read-bytes .before .before .before in
+    wrong-count (s .args .text .now) 0 (at-read-bytes .read-bytes .ensures) (c .before .read-count .ensures) (c .if2 .left)
 
 returns-3 : tie.Need-returns-3
 returns-3 c =

@@ -39,10 +39,12 @@ add-read-fields c = search needs
 
 read-fields-requires : tie.Need-read-fields-requires
 read-fields-requires c κs =
-    let s = c .before .before .before .before .before .before in
-    let name = c .before .before .before .before .read-name in
+    let then1 = c .before .before .before in
+    let at-read-name = then1 .before in
+    let s = at-read-name .before .before in
+    let name = at-read-name .read-name in
     let named = c .before .named-words .ensures in (
-      name .ensures .sound (c .before .before .before .if1 .taken) .1 .inside,
+      name .ensures .sound (then1 .if1 .taken) .1 .inside,
       simp length-set (omega (arith, s .pre .1, named, few-named (name .result .kind))),
     )
 
@@ -57,17 +59,22 @@ same-length c = ap length (c .before .before .before .before .read-fields .ensur
 
 returns : tie.Need-returns
 returns c =
-    let s = c .before .before .before .before .before .before .before .before .before .before .before in
-    let name = c .before .before .before .before .before .before .before .before .before .read-name in
-    let number = c .before .before .before .before .before .before .before .kind-number in
-    let named = c .before .before .before .before .before .before .named-words in
-    let fields = c .before .before .before .before .read-fields .ensures in
+    let at-read-fields = c .before .before .before .before in
+    let at-named-words = at-read-fields .before .before in
+    let at-kind-number = at-named-words .before in
+    let then1 = at-kind-number .before in
+    let at-read-name = then1 .before in
+    let s = at-read-name .before .before in
+    let name = at-read-name .read-name in
+    let number = at-kind-number .kind-number in
+    let named = at-named-words .named-words in
+    let fields = at-read-fields .read-fields .ensures in
     let word : toZ w32 (number .result) ≡ pos (kindNumber (name .result .kind))
     = toZ-pos w32 (number .result) (search needs) ∙ ap pos (number .ensures) in
     record {
       row = record { kind = name .result .kind; words = fields .words };
       reads = row-read (s .args .text .now) (s .args .at) (name .ensures) (named .ensures) (fields .reads)
-          (c .before .before .before .before .before .before .before .before .if1 .taken) (c .before .before .if2 .taken) (c .read-bytes .ensures);
+          (then1 .if1 .taken) (c .before .before .if2 .taken) (c .read-bytes .ensures);
       written = λ h. fields .written ∙ (λ i. sets (set (s .args .table .now) (s .args .place) (word i)) (add-one (s .args .place) i) (fields .words));
     }
 
@@ -76,9 +83,11 @@ same-length-2 c = ap length (c .before .before .read-fields .ensures .written) �
 
 returns-2 : tie.Need-returns-2
 returns-2 c =
-    let s = c .before .before .before .before .before .before .before .before .before in
-    let name = c .before .before .before .before .before .before .before .read-name in
-    let named = c .before .before .before .before .named-words .ensures in
+    let at-named-words = c .before .before .before .before in
+    let at-read-name = at-named-words .before .before .before in
+    let s = at-read-name .before .before in
+    let name = at-read-name .read-name in
+    let named = at-named-words .named-words .ensures in
     let fields = c .before .before .read-fields .ensures in
     record {
       row = noRow;

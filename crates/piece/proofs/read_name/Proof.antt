@@ -30,7 +30,8 @@ try-name-requires-2 c κs = search needs
 
 returns-2 : tie.Need-returns-2
 returns-2 c =
-    let s = c .before .before .before .before .before .before .before in
+    let at-try-name = c .before .before .before .before in
+    let s = at-try-name .before .before .before in
     named (s .args .text .now) (s .args .at) (c .before .try-name2 .ensures) (c .if2 .taken)
 
 slice-aggregate-try-name-3 : tie.Need-slice-aggregate-try-name-3
@@ -41,7 +42,9 @@ try-name-requires-3 c κs = search needs
 
 returns-3 : tie.Need-returns-3
 returns-3 c =
-    let s = c .before .before .before .before .before .before .before .before .before .before in
+    let at-try-name2 = c .before .before .before .before in
+    let at-try-name = at-try-name2 .before .before .before in
+    let s = at-try-name .before .before .before in
     named (s .args .text .now) (s .args .at) (c .before .try-name3 .ensures) (c .if3 .taken)
 
 slice-aggregate-try-name-4 : tie.Need-slice-aggregate-try-name-4
@@ -52,7 +55,10 @@ try-name-requires-4 c κs = search needs
 
 returns-4 : tie.Need-returns-4
 returns-4 c =
-    let s = c .before .before .before .before .before .before .before .before .before .before .before .before .before in
+    let at-try-name3 = c .before .before .before .before in
+    let at-try-name2 = at-try-name3 .before .before .before in
+    let at-try-name = at-try-name2 .before .before .before in
+    let s = at-try-name .before .before .before in
     named (s .args .text .now) (s .args .at) (c .before .try-name4 .ensures) (c .if4 .taken)
 
 slice-aggregate-try-name-5 : tie.Need-slice-aggregate-try-name-5
@@ -63,7 +69,11 @@ try-name-requires-5 c κs = search needs
 
 returns-5 : tie.Need-returns-5
 returns-5 c =
-    let s = c .before .before .before .before .before .before .before .before .before .before .before .before .before .before .before .before in
+    let at-try-name4 = c .before .before .before .before in
+    let at-try-name3 = at-try-name4 .before .before .before in
+    let at-try-name2 = at-try-name3 .before .before .before in
+    let at-try-name = at-try-name2 .before .before .before in
+    let s = at-try-name .before .before .before in
     named (s .args .text .now) (s .args .at) (c .before .try-name5 .ensures) (c .if5 .taken)
 
 slice-aggregate-try-name-6 : tie.Need-slice-aggregate-try-name-6

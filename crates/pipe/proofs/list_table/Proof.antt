@@ -53,26 +53,32 @@ slice-aggregate-put-list c = search needs
 
 put-list-requires : tie.Need-put-list-requires
 put-list-requires c κs =
-    let m = c .before .before .before .before .before in
-    (made-whole (table m) zeros (list m) size (made m (c .before .before .enum-told .given .1)), m .before .before .before .before .pre)
+    let at-list2 = c .before .before .before .before in
+    let m = at-list2 .before in
+    let s = m .before .before .before .before in
+    (made-whole (table m) zeros (list m) size (made m (c .before .before .enum-told .given .1)), s .pre)
 
 same-length : tie.Need-same-length
 same-length c = search needs
 
 returns : tie.Need-returns
 returns c =
-    let m = c .before .before .before .before .before .before .before .before in
-    let bytes = refused-listing (table m) zeros (list m) size (made m (c .before .before .before .before .before .made .given .1)) in
-    put-same bytes (c .before .before .put-refusal .ensures)
+    let at-put-refusal = c .before .before in
+    let at-made = at-put-refusal .before .before .before in
+    let m = at-made .before .before .before in
+    let bytes = refused-listing (table m) zeros (list m) size (made m (at-made .made .given .1)) in
+    put-same bytes (at-put-refusal .put-refusal .ensures)
 
 same-length-2 : tie.Need-same-length-2
 same-length-2 c = search needs
 
 returns-2 : tie.Need-returns-2
 returns-2 c =
-    let m = c .before .before .before .before .before .before .before .before in
-    let bytes = made-listing (table m) zeros (list m) size (made m (c .before .before .before .before .before .enum-told .given .1)) in
-    put-same bytes (c .before .before .put-list .ensures)
+    let at-put-list = c .before .before in
+    let at-enum-told = at-put-list .before .before .before in
+    let m = at-enum-told .before .before .before in
+    let bytes = made-listing (table m) zeros (list m) size (made m (at-enum-told .enum-told .given .1)) in
+    put-same bytes (at-put-list .put-list .ensures)
 
 pub list-table-spec : {M : Type 1} → statement M
 list-table-spec =

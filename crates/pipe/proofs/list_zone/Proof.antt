@@ -55,18 +55,24 @@ same-length c = search needs
 
 returns : tie.Need-returns
 returns c =
-    let r = c .before .before .before .before .before .before .before .before in
-    let answer = c .before .before .before .before .before .read .given .1 in
-    text-refused size (read r answer) (r .before .before .before .before .pre) (c .before .before .put-refusal .ensures)
+    let at-put-refusal = c .before .before in
+    let at-read = at-put-refusal .before .before .before in
+    let r = at-read .before .before .before in
+    let s = r .before .before .before .before in
+    let answer = at-read .read .given .1 in
+    text-refused size (read r answer) (s .pre) (at-put-refusal .put-refusal .ensures)
 
 same-length-2 : tie.Need-same-length-2
 same-length-2 c = search needs
 
 returns-2 : tie.Need-returns-2
 returns-2 c =
-    let r = c .before .before .before .before .before .before .before .before .before in
-    let answer = c .before .before .before .before .before .before .read2 .given .1 in
-    text-listed (read r answer) (r .before .before .before .before .pre) (c .before .before .list-table .ensures)
+    let at-list-table = c .before .before in
+    let at-read2 = at-list-table .before .before .before .before in
+    let r = at-read2 .before .before .before in
+    let s = r .before .before .before .before in
+    let answer = at-read2 .read2 .given .1 in
+    text-listed (read r answer) (s .pre) (at-list-table .list-table .ensures)
 
 pub list-zone-spec : {M : Type 1} → statement M
 list-zone-spec =

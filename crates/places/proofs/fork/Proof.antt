@@ -21,8 +21,11 @@ add-result c = search needs
 
 returns : tie.Need-returns
 returns c =
-    let s = c .before .before .before .before .before .before .before in
-    (fork-right (s .args .links .now) (s .args .masks .now) (s .args .at) (c .before .before .before .before .before .before .kind .ensures) (c .before .before .before .span .ensures) (c .before .before .before .before .before .if1 .taken) (c .put-aside .ensures .0), c .put-aside .ensures .1)
+    let at-span = c .before .before .before in
+    let then1 = at-span .before .before in
+    let at-kind = then1 .before in
+    let s = at-kind .before in
+    (fork-right (s .args .links .now) (s .args .masks .now) (s .args .at) (at-kind .kind .ensures) (at-span .span .ensures) (then1 .if1 .taken) (c .put-aside .ensures .0), c .put-aside .ensures .1)
 
 returns-2 : tie.Need-returns-2
 returns-2 c =

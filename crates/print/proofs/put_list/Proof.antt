@@ -22,9 +22,12 @@ put-word-requires c κs = search needs
 
 put-products-requires : tie.Need-put-products-requires
 put-products-requires c κs =
-    let s = c .before .before .before .before .before .before .before .before .before .before .before .before .before in
-    let name = c .before .before .before .before .before .before .before .put-bytes .ensures in
-    let count = c .before .before .before .put-word .ensures in
+    let at-put-word = c .before .before .before in
+    let at-put-bytes = at-put-word .before .before .before .before in
+    let at-shared-slice-known = at-put-bytes .before .before .before .before in
+    let s = at-shared-slice-known .before .before in
+    let name = at-put-bytes .put-bytes .ensures in
+    let count = at-put-word .put-word .ensures in
     let room = word-most (productCount (s .args .list .now)) lineFeed in
     (s .pre .0 .0, omega (arith, s .pre .0 .1, s .pre .1, name .end, put-size name, count .end, put-size count, room))
 
@@ -33,10 +36,14 @@ same-length c = search needs
 
 returns : tie.Need-returns
 returns c =
-    let s = c .before .before .before .before .before .before .before .before .before .before .before .before .before .before .before .before in
-    let name = c .before .before .before .before .before .before .before .before .before .before .put-bytes .ensures in
-    let count = c .before .before .before .before .before .before .put-word .ensures in
-    put-same (list-lines (s .args .list .now)) (put-join name (put-join count (c .before .before .put-products .ensures)))
+    let at-put-products = c .before .before in
+    let at-put-word = at-put-products .before .before .before .before in
+    let at-put-bytes = at-put-word .before .before .before .before in
+    let at-shared-slice-known = at-put-bytes .before .before .before .before in
+    let s = at-shared-slice-known .before .before in
+    let name = at-put-bytes .put-bytes .ensures in
+    let count = at-put-word .put-word .ensures in
+    put-same (list-lines (s .args .list .now)) (put-join name (put-join count (at-put-products .put-products .ensures)))
 
 pub put-list-spec : {M : Type 1} → statement M
 put-list-spec =

@@ -27,8 +27,9 @@ product-at-requires c κs = omega (arith, c .before .before .before .before .pre
 
 put-pair-requires : tie.Need-put-pair-requires Inv-loop μ-loop
 put-pair-requires c κs =
-    let s = c .before .before .before .before .before .before in
-    let l = c .before .before .before .loop in
+    let at-loop = c .before .before .before in
+    let s = at-loop .before .before .before in
+    let l = at-loop .loop in
     omega (arith, s .pre .1, l .inv .1 .end, put-size (l .inv .1), lines-room (s .args .list .now) (l .k), c .before .before .loop-test .taken)
 
 add-k : tie.Need-add-k Inv-loop μ-loop
@@ -39,9 +40,12 @@ loop-less c = omega arith
 
 loop-again : tie.Need-loop-again Inv-loop μ-loop
 loop-again c =
-    let s = c .before .before .before .before .before .before .before .before .before .args in
-    let l = c .before .before .before .before .before .before .loop in
-    let product : c .before .before .before .before .product-at .result ≡ productAt (s .list .now) (l .k) = c .before .before .before .before .product-at .ensures in
+    let at-product-at = c .before .before .before .before in
+    let at-loop = at-product-at .before .before in
+    let s = at-loop .before .before .before in
+    let s = s .args in
+    let l = at-loop .loop in
+    let product : at-product-at .product-at .result ≡ productAt (s .list .now) (l .k) = at-product-at .product-at .ensures in
     let line = put-same (ap productLine (sym product)) (c .before .before .put-pair .ensures) in
     (omega arith, put-same (lines-next (s .list .now) (l .k)) (put-join (l .inv .1) line))
 

@@ -16,7 +16,10 @@ same-length : tie.Need-same-length
 same-length c = search needs
 
 returns : tie.Need-returns
-returns c = put-join (c .before .before .before .before .before .before .put-bytes .ensures) (c .before .before .put-pair .ensures)
+returns c =
+    let at-put-pair = c .before .before in
+    let at-put-bytes = at-put-pair .before .before .before .before in
+    put-join (at-put-bytes .put-bytes .ensures) (at-put-pair .put-pair .ensures)
 
 pub put-refusal-spec : {M : Type 1} → statement M
 put-refusal-spec = tie.close (tie.spec slice-aggregate-put-bytes put-bytes-requires put-pair-requires same-length returns)

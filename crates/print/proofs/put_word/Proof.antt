@@ -10,8 +10,9 @@ put-decimal-requires c κs = let s = c .before .before in omega (arith, s .pre, 
 
 slice-write-out : tie.Need-slice-write-out
 slice-write-out c =
-    let s = c .before .before .before .before .before in
-    let number = c .before .before .put-decimal .ensures in
+    let at-put-decimal = c .before .before in
+    let s = at-put-decimal .before .before .before in
+    let number = at-put-decimal .put-decimal .ensures in
     omega (arith, s .pre, number .end, put-size number, few-digits 20 (s .args .n))
 
 add-result : tie.Need-add-result
@@ -22,8 +23,9 @@ same-length c = search needs
 
 returns : tie.Need-returns
 returns c =
-    let s = c .before .before .before .before .before in
-    let number = c .before .before .put-decimal in
+    let at-put-decimal = c .before .before in
+    let s = at-put-decimal .before .before .before in
+    let number = at-put-decimal .put-decimal in
     put-join (number .ensures) (put-one (s .args .last) (number .last .0) (number .result))
 
 pub put-word-spec : {M : Type 1} → statement M

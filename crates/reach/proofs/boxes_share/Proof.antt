@@ -43,9 +43,12 @@ spans-part-requires-3 c κs = search needs
 
 returns : tie.Need-returns
 returns c =
-    let d = c .before .before .before .before .before in
-    let e = d .before .before .before .before .before in
-    let s = e .before .before .before .before .before in
+    let at-struct-told9 = c .before .before .before .before in
+    let d = at-struct-told9 .before in
+    let at-struct-told5 = d .before .before .before .before in
+    let e = at-struct-told5 .before in
+    let at-struct-told = e .before .before .before .before in
+    let s = at-struct-told .before in
     let a = fits-a s in
     let b = fits-b s in
     let x = axis (a .xlo) (a .xhi) (b .xlo) (b .xhi) (e .spans-part .ensures) in

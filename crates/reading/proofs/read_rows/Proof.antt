@@ -39,15 +39,19 @@ add-t12 c = search needs
 
 same-length : tie.Need-same-length Inv-loop μ-loop
 same-length c =
-    let s = c .before .before .before .before .before .before .before .before in
-    let l = c .before .before .before .before .before .before .loop in
-    c .before .before .before .read-line .kept .1 .1 .0 ∙ same-size s (l .inv .0) (l .inv .1)
+    let at-read-line = c .before .before .before in
+    let at-loop = at-read-line .before .before .before in
+    let s = at-loop .before .before in
+    let l = at-loop .loop in
+    at-read-line .read-line .kept .1 .1 .0 ∙ same-size s (l .inv .0) (l .inv .1)
 
 returns : tie.Need-returns Inv-loop μ-loop
 returns c =
-    let s = c .before .before .before .before .before .before .before .before in
-    let l = c .before .before .before .before .before .before .loop in
-    row-fault (s .pre .0) (l .inv .1) (omega arith) (c .before .before .before .read-line .ensures) (not-true _ (c .if1 .taken))
+    let at-read-line = c .before .before .before in
+    let at-loop = at-read-line .before .before .before in
+    let s = at-loop .before .before in
+    let l = at-loop .loop in
+    row-fault (s .pre .0) (l .inv .1) (omega arith) (at-read-line .read-line .ensures) (not-true _ (c .if1 .taken))
 
 add-row : tie.Need-add-row Inv-loop μ-loop
 add-row c = search needs
@@ -57,9 +61,11 @@ loop-less c = omega arith
 
 loop-again : tie.Need-loop-again Inv-loop μ-loop
 loop-again c =
-    let s = c .before .before .before .before .before .before .before .before in
-    let l = c .before .before .before .before .before .before .loop in
-    (omega arith, row-begun (s .pre .0) (l .inv .1) (omega arith) (c .before .before .before .read-line .ensures) (not-false _ (c .if1 .left)))
+    let at-read-line = c .before .before .before in
+    let at-loop = at-read-line .before .before .before in
+    let s = at-loop .before .before in
+    let l = at-loop .loop in
+    (omega arith, row-begun (s .pre .0) (l .inv .1) (omega arith) (at-read-line .read-line .ensures) (not-false _ (c .if1 .left)))
 
 add-t15 : tie.Need-add-t15 Inv-loop μ-loop
 add-t15 c = record { fits = omega (arith, c .before .before .before .before .pre .0 .not-over) }

@@ -10,12 +10,14 @@ use Rattle.reading.proofs.read_text.Statement.{statement}
 use Rattle.reading.proofs.read_text.Tie as tie
 
 -- the rows that the text spells
-rows-read : (k : tie.After-known-told2)
-    → SpeltOut (k .before .before .before .before .before .before .before .before .args .text .now)
-    (k .before .before .before .before .read-form .last .1 .0) (k .before .form2 .given .0 .0)
+rows-read : (k : tie.After-known-told2) →
+    let at-read-form = k .before .before .before .before in
+    let s = at-read-form .before .before .before .before in
+    SpeltOut (s .args .text .now) (at-read-form .read-form .last .1 .0) (k .before .form2 .given .0 .0)
 rows-read k =
-    let s = k .before .before .before .before .before .before .before .before in
-    let form = k .before .before .before .before .read-form in
+    let at-read-form = k .before .before .before .before in
+    let s = at-read-form .before .before .before .before in
+    let form = at-read-form .read-form in
     subst (FormRead (s .args .text .now) (form .last .1 .0)) (k .before .form2 .given .1) (form .ensures)
 
 returns : tie.Need-returns
@@ -49,19 +51,23 @@ give-requires c κs = search needs
 
 returns-2 : tie.Need-returns-2
 returns-2 c =
-    let s = c .before .before .before .before .before .before .before .before in
-    let form = c .before .before .before .before .read-form in
+    let at-read-form = c .before .before .before .before in
+    let else1 = at-read-form .before .before in
+    let s = else1 .before .before in
+    let form = at-read-form .read-form in
     let fault = subst (FormRead (s .args .text .now) (form .last .1 .0)) (c .before .form .given .1) (form .ensures) in
-    read-faulty (s .args .table .now) (c .before .before .before .before .before .before .if1 .left) fault
+    read-faulty (s .args .table .now) (else1 .if1 .left) fault
 
 same-length : tie.Need-same-length
 same-length c = search needs
 
 returns-3 : tie.Need-returns-3
 returns-3 c =
-    let s = c .before .before .before .before .before .before .before .before .before .before .before .before in
     let k = c .before .before .before .before in
-    read-spelt (s .args .table .now) (k .before .before .before .before .before .before .if1 .left) (rows-read k) (c .before .give .ensures)
+    let at-read-form = k .before .before .before .before in
+    let else1 = at-read-form .before .before in
+    let s = else1 .before .before in
+    read-spelt (s .args .table .now) (else1 .if1 .left) (rows-read k) (c .before .give .ensures)
 
 pub read-text-spec : {M : Type 1} → statement M
 read-text-spec =

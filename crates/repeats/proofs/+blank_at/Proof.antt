@@ -64,39 +64,65 @@ blank-at-blank-at-requires t c κs =
 
 blank-at-returns-3 : (t : ℕ) → blank-at-lts.Need-returns-3 (callees t) (blank-at-at t) blank-at.Post
 blank-at-returns-3 t c =
-    let s = c .before .before .before .before .before .before .before in
-    blank-by-left (s .pre .1) (s .args .reach) (c .before .before .before .before .before .before .kind .ensures) (c .before .before .before .left .ensures) (c .before .before .blank-at .ensures) (c .before .if3 .taken) (c .if4 .taken)
+    let at-left = c .before .before .before in
+    let at-kind = at-left .before .before .before in
+    let s = at-kind .before in
+    blank-by-left (s .pre .1) (s .args .reach) (at-kind .kind .ensures) (at-left .left .ensures) (c .before .before .blank-at .ensures) (c .before .if3 .taken) (c .if4 .taken)
 
 blank-at-add-blank-at : (t : ℕ) → blank-at-lts.Need-add-blank-at (callees t) (blank-at-at t) blank-at.Post
-blank-at-add-blank-at t c = omega (arith, in-few (c .before .before .before .before .before .before .before .pre .1))
+blank-at-add-blank-at t c =
+    let at-left = c .before .before .before in
+    let s = at-left .before .before .before .before in
+    omega (arith, in-few (s .pre .1))
 
 blank-at-blank-at-requires-2 : (t : ℕ) → blank-at-lts.Need-blank-at-requires-2 (callees t) (blank-at-at t) blank-at.Post
 blank-at-blank-at-requires-2 t c κs =
-    let s = c .before .before .before .before .before .before .before in
-    asks-right (s .pre .1) (s .pre .0) (inner-by (s .pre .1) (c .before .before .before .before .before .before .kind .ensures) (c .before .before .before .before .before .if1 .left) (c .before .before .before .before .if2 .left))
+    let else2 = c .before .before .before .before in
+    let else1 = else2 .before in
+    let at-kind = else1 .before in
+    let s = at-kind .before in
+    asks-right (s .pre .1) (s .pre .0) (inner-by (s .pre .1) (at-kind .kind .ensures) (else1 .if1 .left) (else2 .if2 .left))
 
 blank-at-returns-4 : (t : ℕ) → blank-at-lts.Need-returns-4 (callees t) (blank-at-at t) blank-at.Post
 blank-at-returns-4 t c =
-    let s = c .before .before .before .before .before .before .before .before in
-    blank-by-right (s .pre .1) (s .args .reach) (c .before .before .before .before .before .before .before .kind .ensures) (c .before .before .before .before .left .ensures) (c .before .before .before .blank-at .ensures) (c .before .before .if3 .taken) (c .before .if4 .left) (c .blank-at2 .ensures)
+    let at-blank-at = c .before .before .before in
+    let at-left = at-blank-at .before in
+    let at-kind = at-left .before .before .before in
+    let s = at-kind .before in
+    blank-by-right (s .pre .1) (s .args .reach) (at-kind .kind .ensures) (at-left .left .ensures) (at-blank-at .blank-at .ensures) (c .before .before .if3 .taken) (c .before .if4 .left) (c .blank-at2 .ensures)
 
 blank-at-add-blank-at-2 : (t : ℕ) → blank-at-lts.Need-add-blank-at-2 (callees t) (blank-at-at t) blank-at.Post
-blank-at-add-blank-at-2 t c = omega (arith, in-few (c .before .before .before .before .before .before .before .pre .1))
+blank-at-add-blank-at-2 t c =
+    let at-left = c .before .before .before in
+    let s = at-left .before .before .before .before in
+    omega (arith, in-few (s .pre .1))
 
 blank-at-blank-at-requires-3 : (t : ℕ) → blank-at-lts.Need-blank-at-requires-3 (callees t) (blank-at-at t) blank-at.Post
 blank-at-blank-at-requires-3 t c κs =
-    let s = c .before .before .before .before .before .before .before in
-    asks-right (s .pre .1) (s .pre .0) (inner-by (s .pre .1) (c .before .before .before .before .before .before .kind .ensures) (c .before .before .before .before .before .if1 .left) (c .before .before .before .before .if2 .left))
+    let else2 = c .before .before .before .before in
+    let else1 = else2 .before in
+    let at-kind = else1 .before in
+    let s = at-kind .before in
+    asks-right (s .pre .1) (s .pre .0) (inner-by (s .pre .1) (at-kind .kind .ensures) (else1 .if1 .left) (else2 .if2 .left))
 
 blank-at-returns-5 : (t : ℕ) → blank-at-lts.Need-returns-5 (callees t) (blank-at-at t) blank-at.Post
 blank-at-returns-5 t c =
-    let s = c .before .before .before .before .before .before .before .before in
-    blank-both-parts (s .pre .1) (s .args .reach) (c .before .before .before .before .before .before .before .kind .ensures) (c .before .before .before .before .left .ensures) (c .before .before .before .blank-at .ensures) (c .before .before .before .before .before .before .if1 .left) (c .before .before .before .before .before .if2 .left) (c .before .before .if3 .left) (c .before .if5 .taken) (c .blank-at3 .ensures)
+    let at-blank-at = c .before .before .before in
+    let at-left = at-blank-at .before in
+    let else2 = at-left .before in
+    let else1 = else2 .before in
+    let at-kind = else1 .before in
+    let s = at-kind .before in
+    blank-both-parts (s .pre .1) (s .args .reach) (at-kind .kind .ensures) (at-left .left .ensures) (at-blank-at .blank-at .ensures) (else1 .if1 .left) (else2 .if2 .left) (c .before .before .if3 .left) (c .before .if5 .taken) (c .blank-at3 .ensures)
 
 blank-at-returns-6 : (t : ℕ) → blank-at-lts.Need-returns-6 (callees t) (blank-at-at t) blank-at.Post
 blank-at-returns-6 t c =
-    let s = c .before .before .before .before .before .before .before in
-    full-left (s .pre .1) (s .args .reach) (c .before .before .before .before .before .before .kind .ensures) (c .before .before .before .left .ensures) (c .before .before .blank-at .ensures) (c .before .before .before .before .before .if1 .left) (c .before .before .before .before .if2 .left) (c .before .if3 .left) (c .if5 .left)
+    let at-left = c .before .before .before in
+    let else2 = at-left .before in
+    let else1 = else2 .before in
+    let at-kind = else1 .before in
+    let s = at-kind .before in
+    full-left (s .pre .1) (s .args .reach) (at-kind .kind .ensures) (at-left .left .ensures) (c .before .before .blank-at .ensures) (else1 .if1 .left) (else2 .if2 .left) (c .before .if3 .left) (c .if5 .left)
 
 pub +blank-at-spec : {M : Type 1} → statement M
 +blank-at-spec = close μ-blank-at λ t. blank-at-lts.spec (callees t)

@@ -65,78 +65,136 @@ stale-at-kind-requires t c κs = in-few (c .before .before .before .pre .1)
 
 stale-at-returns-2 : (t : ℕ) → stale-at-lts.Need-returns-2 (callees t) (stale-at-at t) stale-at.Post
 stale-at-returns-2 t c =
-    let s = c .before .before .before .before .before in
+    let at-risk = c .before .before .before .before in
+    let s = at-risk .before in
     sym (stale-leaf (s .pre .1 .rows .linked) (s .pre .1 .here) (s .args .plain) (s .args .cuts) (s .args .reach) (omega (arith, c .before .kind .ensures, c .if2 .taken)))
 
 stale-at-left-requires : (t : ℕ) → stale-at-lts.Need-left-requires (callees t) (stale-at-at t) stale-at.Post
-stale-at-left-requires t c κs = in-few (c .before .before .before .before .before .pre .1)
+stale-at-left-requires t c κs =
+    let at-risk = c .before .before .before .before in
+    in-few (at-risk .before .pre .1)
 
 stale-at-below-requires : (t : ℕ) → stale-at-lts.Need-below-requires (callees t) (stale-at-at t) stale-at.Post
 stale-at-below-requires t c κs =
-    let s = c .before .before .before .before .before .before .before in
-    in-few (asks-left (s .pre .1) (s .pre .0) (inner-from (s .pre .1) (c .before .before .before .kind .ensures) (omega arith)) (c .before .left .ensures) .1)
+    let at-kind = c .before .before .before in
+    let s = at-kind .before .before .before .before in
+    in-few (asks-left (s .pre .1) (s .pre .0) (inner-from (s .pre .1) (at-kind .kind .ensures) (omega arith)) (c .before .left .ensures) .1)
 
 stale-at-clear-of-requires : (t : ℕ) → stale-at-lts.Need-clear-of-requires (callees t) (stale-at-at t) stale-at.Post
 stale-at-clear-of-requires t c κs = tt
 
 stale-at-add-hidden : (t : ℕ) → stale-at-lts.Need-add-hidden (callees t) (stale-at-at t) stale-at.Post
-stale-at-add-hidden t c = omega (arith, in-few (c .before .before .before .before .before .before .before .before .before .before .pre .1))
+stale-at-add-hidden t c =
+    let at-left = c .before .before .before .before in
+    let at-safe-in = at-left .before .before .before .before in
+    omega (arith, in-few (at-safe-in .before .before .pre .1))
 
 stale-at-hidden-requires : (t : ℕ) → stale-at-lts.Need-hidden-requires (callees t) (stale-at-at t) stale-at.Post
 stale-at-hidden-requires t c κs =
-    let s = c .before .before .before .before .before .before .before .before .before .before in
-    (asks-left (s .pre .1) (s .pre .0) (inner-from (s .pre .1) (c .before .before .before .before .before .before .kind .ensures) (omega arith)) (c .before .before .before .before .left .ensures) .1, in-few (asks-right (s .pre .1) (s .pre .0) (inner-from (s .pre .1) (c .before .before .before .before .before .before .kind .ensures) (omega arith)) .1))
+    let at-left = c .before .before .before .before in
+    let at-kind = at-left .before .before in
+    let s = at-kind .before .before .before .before in
+    (asks-left (s .pre .1) (s .pre .0) (inner-from (s .pre .1) (at-kind .kind .ensures) (omega arith)) (at-left .left .ensures) .1, in-few (asks-right (s .pre .1) (s .pre .0) (inner-from (s .pre .1) (at-kind .kind .ensures) (omega arith)) .1))
 
 stale-at-returns-3 : (t : ℕ) → stale-at-lts.Need-returns-3 (callees t) (stale-at-at t) stale-at.Post
 stale-at-returns-3 t c =
-    let s = c .before .before .before .before .before .before .before .before .before .before .before .before in
-    stale-hidden (s .pre .1) (s .args .plain) (s .args .cuts) (s .args .reach) (c .before .before .before .before .before .before .before .before .before .before .before .risk .ensures) (sym (c .before .before .before .before .before .before .before .before .before .before .safe-in .ensures) ∙ c .before .before .before .before .before .before .before .before .before .if1 .left) (c .before .before .before .before .before .before .before .before .kind .ensures) (c .before .before .before .before .before .before .left .ensures) (c .before .before .before .before .before .if3 .taken) (c .before .before .before .before .below .ensures) (sym (c .before .before .before .clear-of .ensures) ∙ c .before .before .if4 .taken) (c .before .hidden .ensures) (c .if5 .taken)
+    let at-clear-of = c .before .before .before in
+    let at-below = at-clear-of .before in
+    let then3 = at-below .before in
+    let at-left = then3 .before in
+    let at-kind = at-left .before .before in
+    let else1 = at-kind .before in
+    let at-safe-in = else1 .before in
+    let at-risk = at-safe-in .before in
+    let s = at-risk .before in
+    stale-hidden (s .pre .1) (s .args .plain) (s .args .cuts) (s .args .reach) (at-risk .risk .ensures) (sym (at-safe-in .safe-in .ensures) ∙ else1 .if1 .left) (at-kind .kind .ensures) (at-left .left .ensures) (then3 .if3 .taken) (at-below .below .ensures) (sym (at-clear-of .clear-of .ensures) ∙ c .before .before .if4 .taken) (c .before .hidden .ensures) (c .if5 .taken)
 
 stale-at-add-stale-at : (t : ℕ) → stale-at-lts.Need-add-stale-at (callees t) (stale-at-at t) stale-at.Post
-stale-at-add-stale-at t c = omega (arith, in-few (c .before .before .before .before .before .before .before .before .before .before .before .before .pre .1))
+stale-at-add-stale-at t c =
+    let at-below = c .before .before .before .before in
+    let at-kind = at-below .before .before .before .before in
+    let s = at-kind .before .before .before .before in
+    omega (arith, in-few (s .pre .1))
 
 stale-at-stale-at-requires : (t : ℕ) → stale-at-lts.Need-stale-at-requires (callees t) (stale-at-at t) stale-at.Post
 stale-at-stale-at-requires t c κs =
-    let s = c .before .before .before .before .before .before .before .before .before .before .before .before in
-    asks-right (s .pre .1) (s .pre .0) (inner-from (s .pre .1) (c .before .before .before .before .before .before .before .before .kind .ensures) (omega arith))
+    let at-below = c .before .before .before .before in
+    let at-kind = at-below .before .before .before .before in
+    let s = at-kind .before .before .before .before in
+    asks-right (s .pre .1) (s .pre .0) (inner-from (s .pre .1) (at-kind .kind .ensures) (omega arith))
 
 stale-at-returns-4 : (t : ℕ) → stale-at-lts.Need-returns-4 (callees t) (stale-at-at t) stale-at.Post
 stale-at-returns-4 t c =
-    let s = c .before .before .before .before .before .before .before .before .before .before .before .before .before in
-    stale-right (s .pre .1) (s .args .plain) (s .args .cuts) (s .args .reach) (c .before .before .before .before .before .before .before .before .before .before .before .before .risk .ensures) (sym (c .before .before .before .before .before .before .before .before .before .before .before .safe-in .ensures) ∙ c .before .before .before .before .before .before .before .before .before .before .if1 .left) (c .before .before .before .before .before .before .before .before .before .kind .ensures) (c .before .before .before .before .before .before .before .left .ensures) (c .before .before .before .before .before .before .if3 .taken) (c .before .before .before .before .before .below .ensures) (sym (c .before .before .before .before .clear-of .ensures) ∙ c .before .before .before .if4 .taken) (c .before .before .hidden .ensures) (c .before .if5 .left) (c .stale-at .ensures)
+    let then4 = c .before .before .before in
+    let at-clear-of = then4 .before in
+    let at-below = at-clear-of .before in
+    let then3 = at-below .before in
+    let at-left = then3 .before in
+    let at-kind = at-left .before .before in
+    let else1 = at-kind .before in
+    let at-safe-in = else1 .before in
+    let at-risk = at-safe-in .before in
+    let s = at-risk .before in
+    stale-right (s .pre .1) (s .args .plain) (s .args .cuts) (s .args .reach) (at-risk .risk .ensures) (sym (at-safe-in .safe-in .ensures) ∙ else1 .if1 .left) (at-kind .kind .ensures) (at-left .left .ensures) (then3 .if3 .taken) (at-below .below .ensures) (sym (at-clear-of .clear-of .ensures) ∙ then4 .if4 .taken) (c .before .before .hidden .ensures) (c .before .if5 .left) (c .stale-at .ensures)
 
 stale-at-stale-at-requires-2 : (t : ℕ) → stale-at-lts.Need-stale-at-requires-2 (callees t) (stale-at-at t) stale-at.Post
 stale-at-stale-at-requires-2 t c κs =
-    let s = c .before .before .before .before .before .before .before .before .before .before in
-    asks-left (s .pre .1) (s .pre .0) (inner-from (s .pre .1) (c .before .before .before .before .before .before .kind .ensures) (omega arith)) (c .before .before .before .before .left .ensures)
+    let at-left = c .before .before .before .before in
+    let at-kind = at-left .before .before in
+    let s = at-kind .before .before .before .before in
+    asks-left (s .pre .1) (s .pre .0) (inner-from (s .pre .1) (at-kind .kind .ensures) (omega arith)) (at-left .left .ensures)
 
 stale-at-returns-5 : (t : ℕ) → stale-at-lts.Need-returns-5 (callees t) (stale-at-at t) stale-at.Post
 stale-at-returns-5 t c =
-    let s = c .before .before .before .before .before .before .before .before .before .before .before in
-    stale-left (s .pre .1) (s .args .plain) (s .args .cuts) (s .args .reach) (c .before .before .before .before .before .before .before .before .before .before .risk .ensures) (sym (c .before .before .before .before .before .before .before .before .before .safe-in .ensures) ∙ c .before .before .before .before .before .before .before .before .if1 .left) (c .before .before .before .before .before .before .before .kind .ensures) (c .before .before .before .before .before .left .ensures) (c .before .before .before .before .if3 .taken) (c .before .before .before .below .ensures) (sym (c .before .before .clear-of .ensures) ∙ c .before .if4 .left) (c .stale-at2 .ensures)
+    let at-below = c .before .before .before in
+    let then3 = at-below .before in
+    let at-left = then3 .before in
+    let at-kind = at-left .before .before in
+    let else1 = at-kind .before in
+    let at-safe-in = else1 .before in
+    let at-risk = at-safe-in .before in
+    let s = at-risk .before in
+    stale-left (s .pre .1) (s .args .plain) (s .args .cuts) (s .args .reach) (at-risk .risk .ensures) (sym (at-safe-in .safe-in .ensures) ∙ else1 .if1 .left) (at-kind .kind .ensures) (at-left .left .ensures) (then3 .if3 .taken) (at-below .below .ensures) (sym (c .before .before .clear-of .ensures) ∙ c .before .if4 .left) (c .stale-at2 .ensures)
 
 stale-at-add-stale-at-2 : (t : ℕ) → stale-at-lts.Need-add-stale-at-2 (callees t) (stale-at-at t) stale-at.Post
-stale-at-add-stale-at-2 t c = omega (arith, in-few (c .before .before .before .before .before .before .before .pre .1))
+stale-at-add-stale-at-2 t c =
+    let at-kind = c .before .before .before in
+    let s = at-kind .before .before .before .before in
+    omega (arith, in-few (s .pre .1))
 
 stale-at-stale-at-requires-3 : (t : ℕ) → stale-at-lts.Need-stale-at-requires-3 (callees t) (stale-at-at t) stale-at.Post
 stale-at-stale-at-requires-3 t c κs =
-    let s = c .before .before .before .before .before .before .before in
-    asks-right (s .pre .1) (s .pre .0) (inner-from (s .pre .1) (c .before .before .before .kind .ensures) (omega arith))
+    let at-kind = c .before .before .before in
+    let s = at-kind .before .before .before .before in
+    asks-right (s .pre .1) (s .pre .0) (inner-from (s .pre .1) (at-kind .kind .ensures) (omega arith))
 
 stale-at-returns-6 : (t : ℕ) → stale-at-lts.Need-returns-6 (callees t) (stale-at-at t) stale-at.Post
 stale-at-returns-6 t c =
-    let s = c .before .before .before .before .before .before .before .before .before in
-    stale-in-right (s .pre .1) (s .args .plain) (s .args .cuts) (s .args .reach) (c .before .before .before .before .before .before .before .before .risk .ensures) (sym (c .before .before .before .before .before .before .before .safe-in .ensures) ∙ c .before .before .before .before .before .before .if1 .left) (c .before .before .before .before .before .kind .ensures) (c .before .before .before .left .ensures) (omega arith) (c .before .before .if3 .left) (c .before .stale-at3 .ensures) (c .if6 .taken)
+    let at-left = c .before .before .before in
+    let at-kind = at-left .before .before in
+    let else1 = at-kind .before in
+    let at-safe-in = else1 .before in
+    let at-risk = at-safe-in .before in
+    let s = at-risk .before in
+    stale-in-right (s .pre .1) (s .args .plain) (s .args .cuts) (s .args .reach) (at-risk .risk .ensures) (sym (at-safe-in .safe-in .ensures) ∙ else1 .if1 .left) (at-kind .kind .ensures) (at-left .left .ensures) (omega arith) (c .before .before .if3 .left) (c .before .stale-at3 .ensures) (c .if6 .taken)
 
 stale-at-stale-at-requires-4 : (t : ℕ) → stale-at-lts.Need-stale-at-requires-4 (callees t) (stale-at-at t) stale-at.Post
 stale-at-stale-at-requires-4 t c κs =
-    let s = c .before .before .before .before .before .before .before .before .before in
-    asks-left (s .pre .1) (s .pre .0) (inner-from (s .pre .1) (c .before .before .before .before .before .kind .ensures) (omega arith)) (c .before .before .before .left .ensures)
+    let at-left = c .before .before .before in
+    let at-kind = at-left .before .before in
+    let s = at-kind .before .before .before .before in
+    asks-left (s .pre .1) (s .pre .0) (inner-from (s .pre .1) (at-kind .kind .ensures) (omega arith)) (at-left .left .ensures)
 
 stale-at-returns-7 : (t : ℕ) → stale-at-lts.Need-returns-7 (callees t) (stale-at-at t) stale-at.Post
 stale-at-returns-7 t c =
-    let s = c .before .before .before .before .before .before .before .before .before .before in
-    stale-in-left (s .pre .1) (s .args .plain) (s .args .cuts) (s .args .reach) (c .before .before .before .before .before .before .before .before .before .risk .ensures) (sym (c .before .before .before .before .before .before .before .before .safe-in .ensures) ∙ c .before .before .before .before .before .before .before .if1 .left) (c .before .before .before .before .before .before .kind .ensures) (c .before .before .before .before .left .ensures) (omega arith) (c .before .before .before .if3 .left) (c .before .before .stale-at3 .ensures) (c .before .if6 .left) (c .stale-at4 .ensures)
+    let else3 = c .before .before .before in
+    let at-left = else3 .before in
+    let at-kind = at-left .before .before in
+    let else1 = at-kind .before in
+    let at-safe-in = else1 .before in
+    let at-risk = at-safe-in .before in
+    let s = at-risk .before in
+    stale-in-left (s .pre .1) (s .args .plain) (s .args .cuts) (s .args .reach) (at-risk .risk .ensures) (sym (at-safe-in .safe-in .ensures) ∙ else1 .if1 .left) (at-kind .kind .ensures) (at-left .left .ensures) (omega arith) (else3 .if3 .left) (c .before .before .stale-at3 .ensures) (c .before .if6 .left) (c .stale-at4 .ensures)
 
 pub +stale-at-spec : {M : Type 1} → statement M
 +stale-at-spec = close μ-stale-at λ t. stale-at-lts.spec (callees t)

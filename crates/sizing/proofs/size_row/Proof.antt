@@ -51,24 +51,32 @@ enum-known-step c = search needs
 
 sum-sizes-requires : tie.Need-sum-sizes-requires
 sum-sizes-requires c κs =
-    let s = c .before .before .before .before .before in
-    let N = as-step (s .args .table .now) (s .args .row) (planAt (s .args .table .now) (s .args .row) true) (c .before .before .before .before .read-step .ensures) (c .before .before .step .given .1) in
+    let at-read-step = c .before .before .before .before in
+    let s = at-read-step .before in
+    let N = as-step (s .args .table .now) (s .args .row) (planAt (s .args .table .now) (s .args .row) true) (at-read-step .read-step .ensures) (c .before .before .step .given .1) in
     fits s _ _ _ _ true (N .0) (N .1) (N .2)
 
 element-write-sizes-3 : tie.Need-element-write-sizes-3
-element-write-sizes-3 c = omega (arith, few (c .before .before .before .before .before .before))
+element-write-sizes-3 c =
+    let at-match3 = c .before .before .before .before in
+    let s = at-match3 .before .before in
+    omega (arith, few s)
 
 enum-known-step-2 : tie.Need-enum-known-step-2
 enum-known-step-2 c = search needs
 
 sum-sizes-requires-2 : tie.Need-sum-sizes-requires-2
 sum-sizes-requires-2 c κs =
-    let s = c .before .before .before .before .before in
-    let N = as-step (s .args .table .now) (s .args .row) (planAt (s .args .table .now) (s .args .row) true) (c .before .before .before .before .read-step .ensures) (c .before .before .step2 .given .1) in
+    let at-read-step = c .before .before .before .before in
+    let s = at-read-step .before in
+    let N = as-step (s .args .table .now) (s .args .row) (planAt (s .args .table .now) (s .args .row) true) (at-read-step .read-step .ensures) (c .before .before .step2 .given .1) in
     fits s _ _ _ _ false (N .0) (N .1) (N .2)
 
 element-write-sizes-4 : tie.Need-element-write-sizes-4
-element-write-sizes-4 c = omega (arith, few (c .before .before .before .before .before .before))
+element-write-sizes-4 c =
+    let at-match4 = c .before .before .before .before in
+    let s = at-match4 .before .before in
+    omega (arith, few s)
 
 returns : tie.Need-returns
 returns c =
@@ -84,14 +92,18 @@ returns-2 c =
 
 returns-3 : tie.Need-returns-3
 returns-3 c =
-    let s = c .before .before .before .before .before .before in
-    let N = as-step (s .args .table .now) (s .args .row) (planAt (s .args .table .now) (s .args .row) true) (c .before .before .before .before .before .read-step .ensures) (c .before .before .before .step .given .1) in
+    let at-step = c .before .before .before in
+    let at-read-step = at-step .before .before in
+    let s = at-read-step .before in
+    let N = as-step (s .args .table .now) (s .args .row) (planAt (s .args .table .now) (s .args .row) true) (at-read-step .read-step .ensures) (at-step .step .given .1) in
     sized-more (few s) (s .pre .1) (c .sum-sizes .ensures ∙ rows-pair true _ _ (N .0) (s .pre .1 .each _ (N .1) _) (s .pre .1 .each _ (N .2) _))
 
 returns-4 : tie.Need-returns-4
 returns-4 c =
-    let s = c .before .before .before .before .before .before in
-    let N = as-step (s .args .table .now) (s .args .row) (planAt (s .args .table .now) (s .args .row) true) (c .before .before .before .before .before .read-step .ensures) (c .before .before .before .step2 .given .1) in
+    let at-step2 = c .before .before .before in
+    let at-read-step = at-step2 .before .before in
+    let s = at-read-step .before in
+    let N = as-step (s .args .table .now) (s .args .row) (planAt (s .args .table .now) (s .args .row) true) (at-read-step .read-step .ensures) (at-step2 .step2 .given .1) in
     sized-more (few s) (s .pre .1) (c .sum-sizes2 .ensures ∙ rows-pair false _ _ (N .0) (s .pre .1 .each _ (N .1) _) (s .pre .1 .each _ (N .2) _))
 
 pub size-row-spec : {M : Type 1} → statement M

@@ -53,7 +53,10 @@ sub-t8 : tie.Need-sub-t8
 sub-t8 c = let d = c .before .before .before .before in sub-fits (cy d) (ry d) tt
 
 add-t9 : tie.Need-add-t9
-add-t9 c = let d = c .before .before .before .before .before .before in add-fits (cy d) (ry d) tt
+add-t9 c =
+    let at-struct-known3 = c .before .before .before in
+    let d = at-struct-known3 .before .before .before in
+    add-fits (cy d) (ry d) tt
 
 returns : tie.Need-returns
 returns c = ap boxOf (sym (c .before .s .given .1))

@@ -36,13 +36,18 @@ framed s = let f = fits s in let z = toZ-ofZ w32 _ (f .z) in λ i. leZ (toZ-ofZ 
 
 returns : tie.Need-returns
 returns c =
-    let s = c .before .before .before .before .before .before .before .before .before in
+    let at-struct-known3 = c .before .before .before .before in
+    let at-struct-known = at-struct-known3 .before .before .before .before in
+    let s = at-struct-known .before in
     let d = s .args .d in
     and-no (within (record { lo = d .zlo; hi = d .zhi }) (s .args .p .z)) _ (sym (framed s) ∙ not-true _ (c .if1 .taken))
 
 in-ellipse-requires : tie.Need-in-ellipse-requires
 in-ellipse-requires c κs =
-    let s = c .before .before .before .before .before .before .before .before .before .before .before .before .before .before .before in
+    let at-struct-told6 = c .before .before .before .before in
+    let at-struct-known4 = at-struct-told6 .before .before .before .before in
+    let at-struct-known2 = at-struct-known4 .before .before .before .before in
+    let s = at-struct-known2 .before .before .before in
     let d = s .args .d in
     let p = s .args .p in
     let f = fits s in
@@ -56,8 +61,11 @@ in-ellipse-requires c κs =
 
 returns-2 : tie.Need-returns-2
 returns-2 c =
-    let e = c .before .before .before .before .before .before .before in
-    let s = e .before .before .before .before .before .before .before .before .before in
+    let at-struct-told7 = c .before .before .before .before in
+    let e = at-struct-told7 .before .before .before in
+    let at-struct-known3 = e .before .before .before .before in
+    let at-struct-known = at-struct-known3 .before .before .before .before in
+    let s = at-struct-known .before in
     let d = s .args .d in
     let p = s .args .p in
     let f = fits s in

@@ -36,7 +36,9 @@ returns c =
 
 half-space-requires : tie.Need-half-space-requires
 half-space-requires c κs =
-    let s = c .before .before .before .before .before .before .before .before .before .before in
+    let at-struct-told3 = c .before .before .before .before in
+    let at-in-box = at-struct-told3 .before .before .before .before in
+    let s = at-in-box .before .before in
     let w = s .args .w in
     let p = s .args .p in
     let f = fits s in (
@@ -46,15 +48,17 @@ half-space-requires c κs =
 
 returns-2 : tie.Need-returns-2
 returns-2 c =
-    let e = c .before .before .before .before .before .before .before .before in
-    let s = e .before .before .before in
+    let at-struct-told4 = c .before .before .before .before in
+    let e = at-struct-told4 .before .before .before .before in
+    let at-in-box = e .before in
+    let s = at-in-box .before .before in
     let w = s .args .w in
     let p = s .args .p in
     let f = fits s in
     c .half-space .ensures
     ∙ (λ i. halfSpace (toZ-ofZ w32 (w .a) (f .a) i) (toZ-ofZ w32 (w .b) (f .b) i) (toZ-ofZ w32 (w .c) (f .c) i) (toZ-ofZ w32 (w .d) (f .d) i)
     (toZ-ofZ w32 (p .x) (f .x) i) (toZ-ofZ w32 (p .y) (f .y) i) (toZ-ofZ w32 (p .z) (f .z) i))
-    ∙ and-yes (holds (bounds (w .bounds)) p) _ (sym (e .before .in-box .ensures) ∙ not-false _ (e .if1 .left))
+    ∙ and-yes (holds (bounds (w .bounds)) p) _ (sym (at-in-box .in-box .ensures) ∙ not-false _ (e .if1 .left))
 
 pub in-wedge-spec : {M : Type 1} → statement M
 in-wedge-spec = tie.close (tie.spec in-box-requires returns half-space-requires returns-2)

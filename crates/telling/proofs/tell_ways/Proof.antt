@@ -20,12 +20,14 @@ number-rows-requires c κs = search needs
 
 ways-requires : tie.Need-ways-requires Inv-loop μ-loop
 ways-requires c κs =
-    let s = c .before .before .before .before .before in
-    (s .pre .0, (c .before .before .number-rows .ensures .1, nothing-remembered (s .args .table .now)))
+    let at-number-rows = c .before .before in
+    let s = at-number-rows .before .before .before in
+    (s .pre .0, (at-number-rows .number-rows .ensures .1, nothing-remembered (s .args .table .now)))
 
 loop-holds : tie.Need-loop-holds Inv-loop μ-loop
 loop-holds c =
-    let s = c .before .before .before .before .before .before in
+    let at-number-rows = c .before .before .before in
+    let s = at-number-rows .before .before .before in
     (c .ways .ensures .1, nothing-told (s .pre .1 .0) (s .pre .1 .1) (length-replicate {A = ℕ} 65536 0))
 
 tell-way-requires : tie.Need-tell-way-requires Inv-loop μ-loop

@@ -28,7 +28,9 @@ slice-aggregate-tell-table : tie.Need-slice-aggregate-tell-table
 slice-aggregate-tell-table c = sym (length-take-le _ _ (array-share-prefix-table (c .before)))
 
 tell-table-requires : tie.Need-tell-table-requires
-tell-table-requires c κs = read-sound (subst (TextRead _ _ _) (c .before .before .read2 .given .1) (c .before .before .before .before .before .read-text .ensures))
+tell-table-requires c κs =
+    let at-table2 = c .before .before .before .before in
+    read-sound (subst (TextRead _ _ _) (c .before .before .read2 .given .1) (at-table2 .before .read-text .ensures))
 
 returns : tie.Need-returns
 returns c = search needs

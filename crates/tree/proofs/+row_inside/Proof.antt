@@ -72,7 +72,10 @@ row-inside-row-inside-requires : (t : ℕ) → row-inside-lts.Need-row-inside-re
 row-inside-row-inside-requires t c κs = let d = c .before .before .before in asks (d .before .pre) (right t d (c .before .reads2 .given .1) .0)
 
 row-inside-row-inside-requires-2 : (t : ℕ) → row-inside-lts.Need-row-inside-requires-2 (told t) (row-inside-at t) row-inside.Post
-row-inside-row-inside-requires-2 t c κs = let d = c .before .before .before .before .before in asks (d .before .pre) (right t d (c .before .before .before .reads2 .given .1) .1)
+row-inside-row-inside-requires-2 t c κs =
+    let at-reads2 = c .before .before .before in
+    let d = at-reads2 .before .before in
+    asks (d .before .pre) (right t d (at-reads2 .reads2 .given .1) .1)
 
 row-inside-enum-known-reads-3 : (t : ℕ) → row-inside-lts.Need-enum-known-reads-3 (told t) (row-inside-at t) row-inside.Post
 row-inside-enum-known-reads-3 t c = search needs
@@ -81,7 +84,10 @@ row-inside-row-inside-requires-3 : (t : ℕ) → row-inside-lts.Need-row-inside-
 row-inside-row-inside-requires-3 t c κs = let d = c .before .before .before in asks (d .before .pre) (right t d (c .before .reads3 .given .1) .0)
 
 row-inside-row-inside-requires-4 : (t : ℕ) → row-inside-lts.Need-row-inside-requires-4 (told t) (row-inside-at t) row-inside.Post
-row-inside-row-inside-requires-4 t c κs = let d = c .before .before .before .before .before in asks (d .before .pre) (right t d (c .before .before .before .reads3 .given .1) .1)
+row-inside-row-inside-requires-4 t c κs =
+    let at-reads3 = c .before .before .before in
+    let d = at-reads3 .before .before in
+    asks (d .before .pre) (right t d (at-reads3 .reads3 .given .1) .1)
 
 row-inside-enum-known-reads-4 : (t : ℕ) → row-inside-lts.Need-enum-known-reads-4 (told t) (row-inside-at t) row-inside.Post
 row-inside-enum-known-reads-4 t c = search needs
@@ -90,7 +96,10 @@ row-inside-row-inside-requires-5 : (t : ℕ) → row-inside-lts.Need-row-inside-
 row-inside-row-inside-requires-5 t c κs = let d = c .before .before .before in asks (d .before .pre) (right t d (c .before .reads4 .given .1) .0)
 
 row-inside-row-inside-requires-6 : (t : ℕ) → row-inside-lts.Need-row-inside-requires-6 (told t) (row-inside-at t) row-inside.Post
-row-inside-row-inside-requires-6 t c κs = let d = c .before .before .before .before .before in asks (d .before .pre) (right t d (c .before .before .before .reads4 .given .1) .1)
+row-inside-row-inside-requires-6 t c κs =
+    let at-reads4 = c .before .before .before in
+    let d = at-reads4 .before .before in
+    asks (d .before .pre) (right t d (at-reads4 .reads4 .given .1) .1)
 
 row-inside-returns : (t : ℕ) → row-inside-lts.Need-returns (told t) (row-inside-at t) row-inside.Post
 unfolding inside
@@ -98,27 +107,45 @@ row-inside-returns t c = let d = c .before .before .before .before in answers t 
 
 row-inside-returns-2 : (t : ℕ) → row-inside-lts.Need-returns-2 (told t) (row-inside-at t) row-inside.Post
 unfolding inside
-row-inside-returns-2 t c = let d = c .before .before .before .before .before in answers t d (c .before .before .before .reads2 .given .1) (c .if1 .taken ∙ or-yes _ _ (sym (c .before .row-inside .ensures) ∙ c .if1 .taken))
+row-inside-returns-2 t c =
+    let at-reads2 = c .before .before .before in
+    let d = at-reads2 .before .before in
+    answers t d (at-reads2 .reads2 .given .1) (c .if1 .taken ∙ or-yes _ _ (sym (c .before .row-inside .ensures) ∙ c .if1 .taken))
 
 row-inside-returns-3 : (t : ℕ) → row-inside-lts.Need-returns-3 (told t) (row-inside-at t) row-inside.Post
 unfolding inside
-row-inside-returns-3 t c = let d = c .before .before .before .before .before .before in answers t d (c .before .before .before .before .reads2 .given .1) (c .row-inside2 .ensures ∙ or-no _ _ (sym (c .before .before .row-inside .ensures) ∙ c .before .if1 .left))
+row-inside-returns-3 t c =
+    let at-reads2 = c .before .before .before .before in
+    let d = at-reads2 .before .before in
+    answers t d (at-reads2 .reads2 .given .1) (c .row-inside2 .ensures ∙ or-no _ _ (sym (c .before .before .row-inside .ensures) ∙ c .before .if1 .left))
 
 row-inside-returns-4 : (t : ℕ) → row-inside-lts.Need-returns-4 (told t) (row-inside-at t) row-inside.Post
 unfolding inside
-row-inside-returns-4 t c = let d = c .before .before .before .before .before .before in answers t d (c .before .before .before .before .reads3 .given .1) (c .row-inside4 .ensures ∙ and-yes _ _ (sym (c .before .before .row-inside3 .ensures) ∙ c .before .if2 .taken))
+row-inside-returns-4 t c =
+    let at-reads3 = c .before .before .before .before in
+    let d = at-reads3 .before .before in
+    answers t d (at-reads3 .reads3 .given .1) (c .row-inside4 .ensures ∙ and-yes _ _ (sym (c .before .before .row-inside3 .ensures) ∙ c .before .if2 .taken))
 
 row-inside-returns-5 : (t : ℕ) → row-inside-lts.Need-returns-5 (told t) (row-inside-at t) row-inside.Post
 unfolding inside
-row-inside-returns-5 t c = let d = c .before .before .before .before .before in answers t d (c .before .before .before .reads3 .given .1) (c .if2 .left ∙ and-no _ _ (sym (c .before .row-inside3 .ensures) ∙ c .if2 .left))
+row-inside-returns-5 t c =
+    let at-reads3 = c .before .before .before in
+    let d = at-reads3 .before .before in
+    answers t d (at-reads3 .reads3 .given .1) (c .if2 .left ∙ and-no _ _ (sym (c .before .row-inside3 .ensures) ∙ c .if2 .left))
 
 row-inside-returns-6 : (t : ℕ) → row-inside-lts.Need-returns-6 (told t) (row-inside-at t) row-inside.Post
 unfolding inside
-row-inside-returns-6 t c = let d = c .before .before .before .before .before .before in answers t d (c .before .before .before .before .reads4 .given .1) (ap not (c .row-inside6 .ensures) ∙ and-yes _ _ (sym (c .before .before .row-inside5 .ensures) ∙ c .before .if3 .taken))
+row-inside-returns-6 t c =
+    let at-reads4 = c .before .before .before .before in
+    let d = at-reads4 .before .before in
+    answers t d (at-reads4 .reads4 .given .1) (ap not (c .row-inside6 .ensures) ∙ and-yes _ _ (sym (c .before .before .row-inside5 .ensures) ∙ c .before .if3 .taken))
 
 row-inside-returns-7 : (t : ℕ) → row-inside-lts.Need-returns-7 (told t) (row-inside-at t) row-inside.Post
 unfolding inside
-row-inside-returns-7 t c = let d = c .before .before .before .before .before in answers t d (c .before .before .before .reads4 .given .1) (c .if3 .left ∙ and-no _ _ (sym (c .before .row-inside5 .ensures) ∙ c .if3 .left))
+row-inside-returns-7 t c =
+    let at-reads4 = c .before .before .before in
+    let d = at-reads4 .before .before in
+    answers t d (at-reads4 .reads4 .given .1) (c .if3 .left ∙ and-no _ _ (sym (c .before .row-inside5 .ensures) ∙ c .if3 .left))
 
 pub +row-inside-spec : {M : Type 1} → statement M
 +row-inside-spec = close μ-row-inside λ t. row-inside-lts.spec (told t)

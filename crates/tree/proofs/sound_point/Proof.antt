@@ -35,8 +35,9 @@ zone-inside-requires c κs = let s = c .before .before .before .before in (table
 
 returns : tie.Need-returns
 returns c =
-    let s = c .before .before .before .before .before in
-    point-out (s .args .table .now) (s .args .p) (s .pre) (stopped (pointRefusal everywhere (s .args .p)) (sym (c .before .placed .given .1) ∙ placed (c .before .before .before)))
+    let at-check-point = c .before .before .before in
+    let s = at-check-point .before .before in
+    point-out (s .args .table .now) (s .args .p) (s .pre) (stopped (pointRefusal everywhere (s .args .p)) (sym (c .before .placed .given .1) ∙ placed at-check-point))
 
 returns-2 : tie.Need-returns-2
 returns-2 c =

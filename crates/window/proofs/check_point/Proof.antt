@@ -54,18 +54,21 @@ first-of-requires-2 c κs = search needs
 returns : tie.Need-returns
 returns c =
     let x = c .before in
-    let codes = x .before .before .before .before .before in
+    let at-between3 = x .before in
+    let codes = at-between3 .before .before .before .before in
     let y = codes .before in
-    let z = y .before .before .before .before .before in
-    let s = z .before .before .before .before .before in
+    let at-between2 = y .before in
+    let z = at-between2 .before .before .before .before in
+    let at-between = z .before in
+    let s = at-between .before .before .before .before in
     let E = ends s in
     let F = coordinates s in
     let box = windowBox (s .args .w) in
     let p = s .args .p in
     let rule : Span → ℤ → ℕ → Option Refusal = λ span v i. refuseUnless (within span v) 10 i in
-    let column = ruled (box .x) (p .x) 0 (x .refuse-unless3 .ensures) (x .before .between3 .ensures ∙ axis (E .xlo) (F .x) (E .xhi)) in
-    let code = ruled (box .y) (p .y) 1 (y .refuse-unless2 .ensures) (y .before .between2 .ensures ∙ axis (E .ylo) (F .y) (E .yhi)) in
-    let frame = ruled (box .z) (p .z) 2 (z .refuse-unless .ensures) (z .before .between .ensures ∙ axis (E .zlo) (F .z) (E .zhi)) in
+    let column = ruled (box .x) (p .x) 0 (x .refuse-unless3 .ensures) (at-between3 .between3 .ensures ∙ axis (E .xlo) (F .x) (E .xhi)) in
+    let code = ruled (box .y) (p .y) 1 (y .refuse-unless2 .ensures) (at-between2 .between2 .ensures ∙ axis (E .ylo) (F .y) (E .yhi)) in
+    let frame = ruled (box .z) (p .z) 2 (z .refuse-unless .ensures) (at-between .between .ensures ∙ axis (E .zlo) (F .z) (E .zhi)) in
     in-turn (rule (box .x) (p .x) 0 ∷ []) (rule (box .y) (p .y) 1 ∷ rule (box .z) (p .z) 2 ∷ []) (alone (rule (box .x) (p .x) 0) column)
     (one-two (rule (box .y) (p .y) 1) (rule (box .z) (p .z) 2) code frame (codes .first-of .ensures)) (c .first-of2 .ensures)
 

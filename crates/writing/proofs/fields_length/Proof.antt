@@ -32,9 +32,11 @@ more : (c : tie.After-number-length Inv-loop μ-loop) → let s = c .before .bef
     let l = c .before .before .before .loop in
     l .size + (1 + c .number-length .result) ≡ length (fieldsTo (s .table .now) (s .row) (l .k + 1))
 more c =
-    let t = c .before .before .before .before .before .args .table .now in
-    let row = c .before .before .before .before .before .args .row in
-    let l = c .before .before .before .loop in
+    let at-loop = c .before .before .before in
+    let s = at-loop .before .before in
+    let t = s .args .table .now in
+    let row = s .args .row in
+    let l = at-loop .loop in
     let word = read w32 (c .before .word .ok) (c .before .word .ensures) in
     let size = c .number-length .ensures ∙ ap (λ (v : ℤ). length (numberText v)) word in
     let fields = longer (fieldsTo t row) (λ k. fieldText (wordAt t row (k + 1))) (fields-grow t row) (l .k) in
@@ -58,9 +60,11 @@ number-length-requires c κs = search needs
 
 add-size-2 : tie.Need-add-size-2 Inv-loop μ-loop
 add-size-2 c =
-    let s = c .before .before .before .before .before .args in
-    let l = c .before .before .before .loop in
-    omega (arith, few (c .before .before .before), more c, fields-few (s .table .now) (s .row) (l .k + 1))
+    let at-loop = c .before .before .before in
+    let s = at-loop .before .before in
+    let s = s .args in
+    let l = at-loop .loop in
+    omega (arith, few at-loop, more c, fields-few (s .table .now) (s .row) (l .k + 1))
 
 add-size : tie.Need-add-size Inv-loop μ-loop
 add-size c = omega (arith, add-size-2 c .fits)

@@ -26,9 +26,10 @@ same-length c = c .before .before .put-number .kept .0 ∙ simp length-set
 
 returns : tie.Need-returns
 returns c =
-    let s = c .before .before .before .before .before in
+    let at-put-number = c .before .before in
+    let s = at-put-number .before .before .before in
     let same = toZ-ofZ w32 (s .args .v) (s .fits .v) in
-    put-join (put-one tab (s .args .text .now) (s .args .at)) (rw same at (c .before .before .put-number .ensures))
+    put-join (put-one tab (s .args .text .now) (s .args .at)) (rw same at (at-put-number .put-number .ensures))
 
 pub put-field-spec : {M : Type 1} → statement M
 put-field-spec =

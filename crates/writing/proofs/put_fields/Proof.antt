@@ -50,13 +50,16 @@ add-word : tie.Need-add-word Inv-loop μ-loop
 add-word c = omega (arith, few (c .before .before))
 
 word-requires : tie.Need-word-requires Inv-loop μ-loop
-word-requires c κs = omega (arith, few (c .before .before), c .before .before .before .before .before .pre .0 .whole)
+word-requires c κs =
+    let at-named-words = c .before .before .before in
+    omega (arith, few (c .before .before), at-named-words .before .before .pre .0 .whole)
 
 put-field-requires : tie.Need-put-field-requires Inv-loop μ-loop
 put-field-requires c κs =
-    let s = c .before .before .before .before .before .before in
     let m = c .before .before .before in
-    let words = m .before .named-words in
+    let at-named-words = m .before in
+    let s = at-named-words .before .before in
+    let words = at-named-words .named-words in
     let t = s .args .table .now in
     let row = s .args .row in
     let all = ap (λ (n : ℕ). length (fieldsTo t row n)) (words .ensures) in
@@ -64,16 +67,21 @@ put-field-requires c κs =
     omega (arith, s .pre .1, m .loop .inv .1 .end, put-size (m .loop .inv .1), ap length (read-field c))
 
 add-k : tie.Need-add-k Inv-loop μ-loop
-add-k c = omega (arith, few (c .before .before .before .before .before .before))
+add-k c =
+    let at-word = c .before .before .before in
+    let at-loop = at-word .before .before .before in
+    omega (arith, few at-loop)
 
 loop-less : tie.Need-loop-less Inv-loop μ-loop
 loop-less c = omega arith
 
 loop-again : tie.Need-loop-again Inv-loop μ-loop
 loop-again c =
-    let s = c .before .before .before .before .before .before .before .before .before .args in
-    let m = c .before .before .before .before .before .before in
-    let put = put-same (sym (read-field (c .before .before .before))) (c .before .before .put-field .ensures) in
+    let at-word = c .before .before .before in
+    let m = at-word .before .before .before in
+    let s = m .before .before .before in
+    let s = s .args in
+    let put = put-same (sym (read-field at-word)) (c .before .before .put-field .ensures) in
     (omega arith, put-next (fieldsTo (s .table .now) (s .row)) (field m) (fields-grow (s .table .now) (s .row)) (m .loop .k) (m .loop .inv .1) put)
 
 same-length : tie.Need-same-length Inv-loop μ-loop

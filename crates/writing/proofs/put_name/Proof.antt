@@ -26,13 +26,18 @@ slice-aggregate-put-bytes : tie.Need-slice-aggregate-put-bytes
 slice-aggregate-put-bytes c = sym (length-take-le _ _ (array-share-prefix-name (c .before)))
 
 put-bytes-requires : tie.Need-put-bytes-requires
-put-bytes-requires c κs = omega (arith, ap length (name (c .before .before)), c .before .before .before .before .before .pre)
+put-bytes-requires c κs =
+    let at-name-of = c .before .before .before in
+    omega (arith, ap length (name (c .before .before)), at-name-of .before .before .pre)
 
 same-length : tie.Need-same-length
 same-length c = search needs
 
 returns : tie.Need-returns
-returns c = put-same (name (c .before .before .before .before .before)) (c .before .before .put-bytes .ensures)
+returns c =
+    let at-put-bytes = c .before .before in
+    let at-name-length = at-put-bytes .before .before .before in
+    put-same (name at-name-length) (at-put-bytes .put-bytes .ensures)
 
 pub put-name-spec : {M : Type 1} → statement M
 put-name-spec =

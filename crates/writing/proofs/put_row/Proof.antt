@@ -21,16 +21,20 @@ enum-known-named c = search needs
 
 put-line-requires : tie.Need-put-line-requires
 put-line-requires c κs =
-    let s = c .before .before .before .before .before .before .before in
-    let word = c .before .before .before .before .before .word in
-    let kind = c .before .before .before .before .kind-of in
+    let at-kind-of = c .before .before .before .before in
+    let at-word = at-kind-of .before in
+    let s = at-word .before .before in
+    let word = at-word .word in
+    let kind = at-kind-of .kind-of in
     let line = line-known (s .args .table .now) (s .args .row) (word .ok) (word .ensures) (kind .ensures) (c .before .before .named .given .1) in
     (s .pre .0, omega (arith, s .pre .1, ap length line))
 
 returns : tie.Need-returns
 returns c =
-    let s = c .before .before .before .before .before .args in
-    let word = c .before .before .before .word in
+    let at-word = c .before .before .before in
+    let s = at-word .before .before in
+    let s = s .args in
+    let word = at-word .word in
     let line = line-unknown (s .table .now) (s .row) (word .ok) (word .ensures) (c .before .before .kind-of .ensures) (c .enum-told .given .1) in
     put-same line (put-none (s .text .now) (s .at))
 
@@ -39,12 +43,17 @@ same-length c = search needs
 
 returns-2 : tie.Need-returns-2
 returns-2 c =
-    let s = c .before .before .before .before .before .before .before .before .before .before .args in
-    let word = c .before .before .before .before .before .before .before .before .word in
-    let kind = c .before .before .before .before .before .before .before .kind-of in
-    let known = c .before .before .before .before .before .named .given .1 in
+    let at-put-line = c .before .before in
+    let at-named = at-put-line .before .before .before in
+    let at-kind-of = at-named .before .before in
+    let at-word = at-kind-of .before in
+    let s = at-word .before .before in
+    let s = s .args in
+    let word = at-word .word in
+    let kind = at-kind-of .kind-of in
+    let known = at-named .named .given .1 in
     let line = line-known (s .table .now) (s .row) (word .ok) (word .ensures) (kind .ensures) known in
-    put-same line (c .before .before .put-line .ensures)
+    put-same line (at-put-line .put-line .ensures)
 
 pub put-row-spec : {M : Type 1} → statement M
 put-row-spec =

@@ -40,9 +40,11 @@ loop-less c = omega arith
 
 loop-again : tie.Need-loop-again Inv-loop μ-loop
 loop-again c =
-    let t = c .before .before .before .before .before .before .before .args .table .now in
-    let l = c .before .before .before .before .before .loop in
-    (omega arith, put-next (linesTo t) (lineAt t) (lines-grow t) (l .row) (l .inv .1) (c .before .before .put-row .ensures))
+    let at-put-row = c .before .before in
+    let at-loop = at-put-row .before .before .before in
+    let t = at-loop .before .before .args .table .now in
+    let l = at-loop .loop in
+    (omega arith, put-next (linesTo t) (lineAt t) (lines-grow t) (l .row) (l .inv .1) (at-put-row .put-row .ensures))
 
 same-length : tie.Need-same-length Inv-loop μ-loop
 same-length c = put-size (c .before .loop .inv .1)

@@ -15,8 +15,9 @@ put-header-requires c κs =
 
 put-rows-requires : tie.Need-put-rows-requires
 put-rows-requires c κs =
-    let s = c .before .before .before .before .before .before in
-    let header = c .before .before .before .put-header .ensures in
+    let at-put-header = c .before .before .before in
+    let s = at-put-header .before .before .before in
+    let header = at-put-header .put-header .ensures in
     ((s .pre .0, refl), omega (arith, s .pre .1, text-size (s .args .table .now) (s .pre .0), header .end, put-size header))
 
 same-length : tie.Need-same-length
@@ -24,9 +25,11 @@ same-length c = search needs
 
 returns : tie.Need-returns
 returns c =
-    let s = c .before .before .before .before .before .before .before .before .before in
-    let header = c .before .before .before .before .before .before .put-header .ensures in
-    put-same (text-parts (s .args .table .now) (s .pre .0)) (put-join header (c .before .before .put-rows .ensures))
+    let at-put-rows = c .before .before in
+    let at-put-header = at-put-rows .before .before .before .before in
+    let s = at-put-header .before .before .before in
+    let header = at-put-header .put-header .ensures in
+    put-same (text-parts (s .args .table .now) (s .pre .0)) (put-join header (at-put-rows .put-rows .ensures))
 
 pub put-text-spec : {M : Type 1} → statement M
 put-text-spec = tie.close (tie.spec put-header-requires put-rows-requires same-length returns)

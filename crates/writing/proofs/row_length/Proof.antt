@@ -12,8 +12,10 @@ use Rattle.writing.proofs.row_length.Tie as tie
 -- a row has at most 10 fields, of at most 12 bytes each
 few : (c : tie.After-fields-length) → c .fields-length .result ≤ 120
 few c =
-    let s = c .before .before .before .before .before .before .before .args in
-    let kind = c .before .before .before .named .given .0 .0 in
+    let at-named = c .before .before .before in
+    let s = at-named .before .before .before .before in
+    let s = s .args in
+    let kind = at-named .named .given .0 .0 in
     omega (arith, c .fields-length .ensures, fields-few (s .table .now) (s .row) (namedWords kind), few-named kind)
 
 word-requires : tie.Need-word-requires
@@ -48,11 +50,15 @@ returns c =
 
 returns-2 : tie.Need-returns-2
 returns-2 c =
-    let s = c .before .before .before .before .before .before .before .args in
-    let word = c .before .before .before .before .before .before .word in
-    let kind = c .before .before .before .before .before .kind-of in
-    let line = line-known (s .table .now) (s .row) (word .ok) (word .ensures) (kind .ensures) (c .before .before .before .named .given .1) in
-    let size = line-size (s .table .now) (s .row) (c .before .before .before .named .given .0 .0) in
+    let at-named = c .before .before .before in
+    let at-kind-of = at-named .before .before in
+    let at-word = at-kind-of .before in
+    let s = at-word .before in
+    let s = s .args in
+    let word = at-word .word in
+    let kind = at-kind-of .kind-of in
+    let line = line-known (s .table .now) (s .row) (word .ok) (word .ensures) (kind .ensures) (at-named .named .given .1) in
+    let size = line-size (s .table .now) (s .row) (at-named .named .given .0 .0) in
     omega (arith, ap length line, c .before .name-length .ensures .0, c .fields-length .ensures)
 
 pub row-length-spec : {M : Type 1} → statement M

@@ -20,9 +20,11 @@ same-length c = search needs
 
 returns-2 : tie.Need-returns-2
 returns-2 c =
-    let s = c .before .before .before .before .before .before .before in
-    let needed = c .before .before .before .before .before .text-length in
-    text-written (s .args .table .now) (s .args .text .now) (s .pre) (omega (arith, needed .ensures)) (c .before .before .put-text .ensures)
+    let at-put-text = c .before .before in
+    let at-text-length = at-put-text .before .before .before in
+    let s = at-text-length .before .before in
+    let needed = at-text-length .text-length in
+    text-written (s .args .table .now) (s .args .text .now) (s .pre) (omega (arith, needed .ensures)) (at-put-text .put-text .ensures)
 
 pub write-sound-spec : {M : Type 1} → statement M
 write-sound-spec =

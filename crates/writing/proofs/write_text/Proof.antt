@@ -17,13 +17,17 @@ enum-told c = search needs
 
 write-sound-requires : tie.Need-write-sound-requires
 write-sound-requires c κs =
-    let s = c .before .before .before .before .before .args in
-    went-on (tableRefusal (s .table .now)) (sym (c .before .enum-told .given .1) ∙ c .before .before .before .check .ensures)
+    let at-check = c .before .before .before in
+    let s = at-check .before .before in
+    let s = s .args in
+    went-on (tableRefusal (s .table .now)) (sym (c .before .enum-told .given .1) ∙ at-check .check .ensures)
 
 returns : tie.Need-returns
 returns c =
-    let s = c .before .before .before .before .before .args in
-    let found = stopped (tableRefusal (s .table .now)) (sym (c .before .checked .given .1) ∙ c .before .before .before .check .ensures) in
+    let at-check = c .before .before .before in
+    let s = at-check .before .before in
+    let s = s .args in
+    let found = stopped (tableRefusal (s .table .now)) (sym (c .before .checked .given .1) ∙ at-check .check .ensures) in
     refused-table (s .table .now) (s .text .now) found
 
 same-length : tie.Need-same-length

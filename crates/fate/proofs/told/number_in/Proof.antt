@@ -27,11 +27,14 @@ product-at-requires c κs = omega (arith, c .before .before .before .before .pre
 
 returns : tie.Need-returns Inv-loop μ-loop
 returns c =
-    let p = c .before .before .before .before .before in
-    let l = p .before .before .loop in
-    let s = p .before .before .before .before .before in
+    let at-struct-known = c .before .before .before .before in
+    let p = at-struct-known .before in
+    let in-loop = p .before in
+    let at-loop = in-loop .before in
+    let s = at-loop .before .before .before in
+    let l = at-loop .loop in
     record {
-      most = omega (arith, p .before .loop-test .taken);
+      most = omega (arith, in-loop .loop-test .taken);
       is = λ listed. sym (p .product-at .ensures) ∙ same-is (p .product-at .result) (s .args .c) (c .if1 .taken);
       first = l .inv .1;
     }
@@ -44,11 +47,14 @@ loop-less c = omega arith
 
 loop-again : tie.Need-loop-again Inv-loop μ-loop
 loop-again c =
-    let p = c .before .before .before .before .before in
-    let l = p .before .before .loop in
-    let s = p .before .before .before .before .before in
+    let at-struct-known = c .before .before .before .before in
+    let p = at-struct-known .before in
+    let in-loop = p .before in
+    let at-loop = in-loop .before in
+    let s = at-loop .before .before .before in
+    let l = at-loop .loop in
     let other = ap (λ (a : Product). same a (s .args .c)) (sym (p .product-at .ensures)) ∙ c .if1 .left in
-    (omega (arith, p .before .loop-test .taken), up-to (λ i. same (productAt (s .args .list .now) i) (s .args .c) ≡ false) (l .k) (l .inv .1) other)
+    (omega (arith, in-loop .loop-test .taken), up-to (λ i. same (productAt (s .args .list .now) i) (s .args .c) ≡ false) (l .k) (l .inv .1) other)
 
 returns-2 : tie.Need-returns-2 Inv-loop μ-loop
 returns-2 c =

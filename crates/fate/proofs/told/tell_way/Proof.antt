@@ -59,7 +59,8 @@ module _ (m : tie.After-number-in) where
 returns : tie.Need-returns
 returns c =
     let m = c .before .before in
-    let way = m .before .before .before .before .before .way .ensures in
+    let at-fate-in = m .before .before .before .before in
+    let way = at-fate-in .before .way .ensures in
     let T = start m .pre .1 .1 .1 .1 in
     let h = start m .pre .1 .1 .1 .0 in
     let N = m .number-in .ensures in
@@ -89,7 +90,8 @@ returns-2 c =
 returns-3 : tie.Need-returns-3
 returns-3 c =
     let m = c .before in
-    let way = m .before .before .before .before .before .way .ensures in
+    let at-fate-in = m .before .before .before .before in
+    let way = at-fate-in .before .way .ensures in
     let T = start m .pre .1 .1 .1 .1 in
     let h = start m .pre .1 .1 .1 .0 in
     let N = m .number-in .ensures in

@@ -37,8 +37,9 @@ put-masks-requires c κs = search needs
 
 returns : tie.Need-returns
 returns c =
-    let s = c .before .before .before .before .before .before .before in
-    ((λ i l e. c .before .before .put-links .ensures ∙ ap (λ (n : ℕ). sets (s .args .links .now) (s .args .at * 4) (line (s .args .kind) n (nextAt (s .args .links .now) (s .args .at)) (doneAt (s .args .links .now) (s .args .at)))) (c .before .before .before .number .ensures i l e)), c .put-masks .ensures)
+    let at-number = c .before .before .before in
+    let s = at-number .before .before .before .before in
+    ((λ i l e. c .before .before .put-links .ensures ∙ ap (λ (n : ℕ). sets (s .args .links .now) (s .args .at * 4) (line (s .args .kind) n (nextAt (s .args .links .now) (s .args .at)) (doneAt (s .args .links .now) (s .args .at)))) (at-number .number .ensures i l e)), c .put-masks .ensures)
 
 pub put-leaf-spec : {M : Type 1} → statement M
 put-leaf-spec =

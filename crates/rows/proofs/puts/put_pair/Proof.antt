@@ -55,13 +55,18 @@ put-links-requires-3 c κs = search needs
 
 returns : tie.Need-returns
 returns c =
-    let s = c .before .before .before .before .before .before .before .before .before .before .before .before .before in
+    let at-put-links2 = c .before .before .before .before in
+    let at-narrow2 = at-put-links2 .before in
+    let at-side = at-narrow2 .before in
+    let at-put-links = at-side .before .before in
+    let at-narrow = at-put-links .before in
+    let s = at-narrow .before .before .before .before in
     let links = s .args .links .now in
     let x = s .args .at in
     c .put-links3 .ensures
-    ∙ (λ i. sets (c .before .before .before .before .put-links2 .ensures i) (s .args .left * 4) (line (c .before .before .side2 .ensures i) (c .before .narrow3 .ensures i) (nextAt links x) (s .args .precedes)))
-    ∙ (λ i. sets (sets (c .before .before .before .before .before .before .before .before .put-links .ensures i) ((x + 1) * 4) (line (c .before .before .before .before .before .before .side .ensures i) (c .before .before .before .before .before .narrow2 .ensures i) (s .args .follows) 0)) (s .args .left * 4) (line (sideOf (s .args .lhs-in)) (s .args .lhs) (nextAt links x) (s .args .precedes)))
-    ∙ (λ i. sets (sets (sets links (x * 4) (line (s .args .kind) (c .before .before .before .before .before .before .before .before .before .narrow .ensures i) (nextAt links x) (doneAt links x))) ((x + 1) * 4) (line (sideOf (s .args .rhs-in)) (s .args .rhs) (s .args .follows) 0)) (s .args .left * 4) (line (sideOf (s .args .lhs-in)) (s .args .lhs) (nextAt links x) (s .args .precedes)))
+    ∙ (λ i. sets (at-put-links2 .put-links2 .ensures i) (s .args .left * 4) (line (c .before .before .side2 .ensures i) (c .before .narrow3 .ensures i) (nextAt links x) (s .args .precedes)))
+    ∙ (λ i. sets (sets (at-put-links .put-links .ensures i) ((x + 1) * 4) (line (at-side .side .ensures i) (at-narrow2 .narrow2 .ensures i) (s .args .follows) 0)) (s .args .left * 4) (line (sideOf (s .args .lhs-in)) (s .args .lhs) (nextAt links x) (s .args .precedes)))
+    ∙ (λ i. sets (sets (sets links (x * 4) (line (s .args .kind) (at-narrow .narrow .ensures i) (nextAt links x) (doneAt links x))) ((x + 1) * 4) (line (sideOf (s .args .rhs-in)) (s .args .rhs) (s .args .follows) 0)) (s .args .left * 4) (line (sideOf (s .args .lhs-in)) (s .args .lhs) (nextAt links x) (s .args .precedes)))
 
 pub put-pair-spec : {M : Type 1} → statement M
 put-pair-spec =

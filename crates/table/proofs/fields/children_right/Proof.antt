@@ -27,10 +27,13 @@ is-earlier-requires-2 c κs = search needs
 
 returns-2 : tie.Need-returns-2
 returns-2 c =
-    let s = c .before .before .before .before .before .before in
-    let left = c .before .before .is-earlier .ensures ∙ ap (isEarlier (s .args .row)) (read w32 (c .before .before .before .word .ok) (c .before .before .before .word .ensures)) in
+    let at-word = c .before .before .before in
+    let else1 = at-word .before in
+    let at-is-primitive = else1 .before in
+    let s = at-is-primitive .before in
+    let left = c .before .before .is-earlier .ensures ∙ ap (isEarlier (s .args .row)) (read w32 (at-word .word .ok) (at-word .word .ensures)) in
     let right = c .is-earlier2 .ensures ∙ ap (isEarlier (s .args .row)) (read w32 (c .before .word2 .ok) (c .before .word2 .ensures)) in
-    rw (← c .before .before .before .before .before .is-primitive .ensures, c .before .before .before .before .if1 .left) (λ i. left i && right i)
+    rw (← at-is-primitive .is-primitive .ensures, else1 .if1 .left) (λ i. left i && right i)
 
 pub children-right-spec : {M : Type 1} → statement M
 children-right-spec =

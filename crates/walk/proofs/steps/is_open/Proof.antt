@@ -12,18 +12,25 @@ span-requires c κs = let s = c .before .before in omega (arith, c .if1 .left, s
 
 returns-2 : tie.Need-returns-2
 returns-2 c =
-    let s = c .before .before .before .before .before .before .before in
-    shut-dead (s .args .links .now) (s .args .masks .now) (s .args .at) (s .args .end) (c .before .before .before .before .before .if1 .left) (c .before .before .before .before .span .ensures) (c .if2 .taken)
+    let at-span = c .before .before .before .before in
+    let else1 = at-span .before in
+    let s = else1 .before .before in
+    shut-dead (s .args .links .now) (s .args .masks .now) (s .args .at) (s .args .end) (else1 .if1 .left) (at-span .span .ensures) (c .if2 .taken)
 
 aged-requires : tie.Need-aged-requires
 aged-requires c κs =
-    let s = c .before .before .before .before .before .before .before in
-    record { end = s .args .end; rows = s .pre .0; here = omega (arith, c .before .before .before .before .before .if1 .left, s .pre .1) }
+    let at-span = c .before .before .before .before in
+    let else1 = at-span .before in
+    let s = else1 .before .before in
+    record { end = s .args .end; rows = s .pre .0; here = omega (arith, else1 .if1 .left, s .pre .1) }
 
 returns-3 : tie.Need-returns-3
 returns-3 c =
-    let s = c .before .before .before .before .before .before .before .before in
-    open-by (s .args .links .now) (s .args .masks .now) (s .args .at) (s .args .end) (c .before .before .before .before .before .before .if1 .left) (c .before .before .before .before .before .span .ensures) (c .before .if2 .left) (c .aged .ensures)
+    let at-struct-known2 = c .before .before .before .before in
+    let at-span = at-struct-known2 .before in
+    let else1 = at-span .before in
+    let s = else1 .before .before in
+    open-by (s .args .links .now) (s .args .masks .now) (s .args .at) (s .args .end) (else1 .if1 .left) (at-span .span .ensures) (c .before .if2 .left) (c .aged .ensures)
 
 pub is-open-spec : {M : Type 1} → statement M
 is-open-spec = tie.close (tie.spec returns span-requires returns-2 aged-requires returns-3)

@@ -48,8 +48,10 @@ onward-requires c κs = let b = in-bounds (c .before .before) in omega (arith, b
 
 loop-less : tie.Need-loop-less Inv-loop μ-loop
 loop-less c =
-    let b = in-bounds (c .before .before .before) in
-    let o = onward-later (c .before .before .before .before .before .before .pre .0 .linked) (c .before .before .before .before .before .before .args .masks .now) (at (c .before .before .before)) (b .1 .0) in
+    let then1 = c .before .before .before in
+    let s = then1 .before .before .before in
+    let b = in-bounds then1 in
+    let o = onward-later (s .pre .0 .linked) (s .args .masks .now) (at then1) (b .1 .0) in
     omega (arith, o .0, b .1, ap (λ (p : Place). p .row) (c .onward .ensures))
 
 loop-again : tie.Need-loop-again Inv-loop μ-loop

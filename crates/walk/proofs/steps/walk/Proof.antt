@@ -29,43 +29,69 @@ sub-taken : tie.Need-sub-taken Inv-loop μ-loop
 sub-taken c = search needs
 
 taken-requires : tie.Need-taken-requires Inv-loop μ-loop
-taken-requires c κs = few-aside (c .before .before .before .before .before .before .pre .0 .linked) (c .before .before .loop .inv) (c .before .loop-test .taken)
+taken-requires c κs =
+    let at-put-aside = c .before .before .before in
+    few-aside (at-put-aside .before .before .before .pre .0 .linked) (c .before .before .loop .inv) (c .before .loop-test .taken)
 
 sub-run : tie.Need-sub-run Inv-loop μ-loop
 sub-run c = search needs
 
 run-requires : tie.Need-run-requires Inv-loop μ-loop
 run-requires c κs =
-    let s = c .before .before .before .before .before .before .before .before in
-    let w = c .before .before .before .before .loop .inv in
-    (s .pre .0, (held-top (s .pre .0 .linked) w (c .before .before .before .loop-test .taken) (c .before .taken .ensures), w .long))
+    let in-loop = c .before .before .before in
+    let at-loop = in-loop .before in
+    let s = at-loop .before .before .before .before in
+    let w = at-loop .loop .inv in
+    (s .pre .0, (held-top (s .pre .0 .linked) w (in-loop .loop-test .taken) (c .before .taken .ensures), w .long))
 
 -- what is written at a stop is among the whole
-stop-fits : (m : tie.After-run Inv-loop μ-loop) → m .before .before .before .before .before .loop .count + length (endOf (m .before .before .before .before .before .before .before .before .before .args .links .now) (m .before .before .before .before .before .before .before .before .before .args .masks .now) (m .before .before .before .before .before .before .before .before .before .args .end) (m .run .result .at))
-    ≤ length (walkAt (m .before .before .before .before .before .before .before .before .before .args .links .now) (m .before .before .before .before .before .before .before .before .before .args .masks .now) (m .before .before .before .before .before .before .before .before .before .args .end) (startOf (m .before .before .before .before .before .before .before .before .before .args .seen)))
-stop-fits m = end-fits (m .before .before .before .before .before .before .before .before .before .pre .0 .linked) (m .before .before .before .before .before .loop .inv) (m .before .before .before .before .loop-test .taken) (m .before .before .taken .ensures) _ _ (m .run .ensures .0) (m .run .ensures .1 .0)
+stop-fits : (m : tie.After-run Inv-loop μ-loop) →
+    let in-loop = m .before .before .before .before in
+    let at-loop = in-loop .before in
+    let s = at-loop .before .before .before .before in
+    at-loop .loop .count + length (endOf (s .args .links .now) (s .args .masks .now) (s .args .end) (m .run .result .at))
+    ≤ length (walkAt (s .args .links .now) (s .args .masks .now) (s .args .end) (startOf (s .args .seen)))
+stop-fits m =
+    let in-loop = m .before .before .before .before in
+    let at-loop = in-loop .before in
+    let s = at-loop .before .before .before .before in
+    end-fits (s .pre .0 .linked) (at-loop .loop .inv) (in-loop .loop-test .taken) (m .before .before .taken .ensures) _ _ (m .run .ensures .0) (m .run .ensures .1 .0)
 
 finish-requires : tie.Need-finish-requires Inv-loop μ-loop
 finish-requires c κs =
-    let s = c .before .before .before .before .before .before .before .before .before .before in
-    (s .pre .0, (omega (arith, stop-fits (c .before), s .pre .1 .0), λ k. omega (arith, stop-fits (c .before), s .pre .1 .1 k, put-length (s .args .keeps) (c .before .before .before .before .before .before .loop .inv .put))))
+    let at-taken = c .before .before .before in
+    let at-loop = at-taken .before .before .before in
+    let s = at-loop .before .before .before .before in
+    (s .pre .0, (omega (arith, stop-fits (c .before), s .pre .1 .0), λ k. omega (arith, stop-fits (c .before), s .pre .1 .1 k, put-length (s .args .keeps) (at-loop .loop .inv .put))))
 
 loop-less : tie.Need-loop-less Inv-loop μ-loop
 loop-less c =
     let m = c .before .before .before .before in
-    fewer (m .before .before .before .before .before .before .before .before .before .pre .0 .linked) (m .before .before .before .before .before .loop .inv) (m .before .before .before .before .loop-test .taken) (m .before .before .taken .ensures) _ _ (m .run .ensures .0) (m .run .ensures .1 .0)
+    let at-taken = m .before .before in
+    let in-loop = at-taken .before .before in
+    let at-loop = in-loop .before in
+    let s = at-loop .before .before .before .before in
+    fewer (s .pre .0 .linked) (at-loop .loop .inv) (in-loop .loop-test .taken) (at-taken .taken .ensures) _ _ (m .run .ensures .0) (m .run .ensures .1 .0)
 
 loop-again : tie.Need-loop-again Inv-loop μ-loop
 loop-again c =
     let m = c .before .before .before .before in
-    walked-more (m .before .before .before .before .before .before .before .before .before .pre .0 .linked) (m .before .before .before .before .before .loop .inv) (m .before .before .before .before .loop-test .taken) (m .before .before .taken .ensures) _ _ (m .run .ensures .0) (m .run .ensures .1 .0)
+    let at-taken = m .before .before in
+    let in-loop = at-taken .before .before in
+    let at-loop = in-loop .before in
+    let s = at-loop .before .before .before .before in
+    walked-more (s .pre .0 .linked) (at-loop .loop .inv) (in-loop .loop-test .taken) (at-taken .taken .ensures) _ _ (m .run .ensures .0) (m .run .ensures .1 .0)
     (m .run .ensures .1 .1) (c .before .before .finish .ensures)
 
 same-length : tie.Need-same-length Inv-loop μ-loop
-same-length c = put-length (c .before .before .before .before .before .args .keeps) (c .before .loop .inv .put)
+same-length c =
+    let at-put-aside = c .before .before in
+    put-length (at-put-aside .before .before .before .args .keeps) (c .before .loop .inv .put)
 
 returns : tie.Need-returns Inv-loop μ-loop
-returns c = walked-all (c .before .before .before .before .before .pre .0 .linked) (c .before .loop .inv) (omega (arith, c .loop-test .left))
+returns c =
+    let at-put-aside = c .before .before in
+    walked-all (at-put-aside .before .before .before .pre .0 .linked) (c .before .loop .inv) (omega (arith, c .loop-test .left))
 
 pub walk-spec : {M : Type 1} → statement M
 walk-spec =
