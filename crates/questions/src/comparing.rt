@@ -153,8 +153,8 @@ fn read_axis(text: &[u8], at: usize, into: &mut [i32]) -> usize
     0
 }
 
-// Compares at the coordinates that are set.
-fn compare_at(text: &[u8], held: &[usize; 11], table: &[i32], w: Window) {
+// Compares at the coordinates that are set; false if an axis has none.
+fn compare_at(text: &[u8], held: &[usize; 11], table: &[i32], w: Window) -> bool {
     let mut xs: [i32; 64] = [0; 64];
     let mut ys: [i32; 64] = [0; 64];
     let mut zs: [i32; 64] = [0; 64];
@@ -162,13 +162,14 @@ fn compare_at(text: &[u8], held: &[usize; 11], table: &[i32], w: Window) {
     let codes = read_axis(text, held[crate::CODES], &mut ys);
     let frames = read_axis(text, held[crate::FRAMES], &mut zs);
     compare_list(table, w, &xs[0..columns], &ys[0..codes], &zs[0..frames]);
+    (0 < columns) & (0 < codes) & (0 < frames)
 }
 
-// Compares in the window that a line's numbers give; false if they are not six.
+// Compares in the window that a line's numbers give; false if they are not six, or an axis has no coordinate.
 pub fn compare(text: &[u8], at: usize, held: &[usize; 11], table: &[i32]) -> bool {
     let bounds = numbers::read_window(text, at);
-    if bounds.right {
-        compare_at(text, held, table, bounds.window);
+    if !bounds.right {
+        return false;
     }
-    bounds.right
+    compare_at(text, held, table, bounds.window)
 }
