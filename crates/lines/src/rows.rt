@@ -16,10 +16,11 @@ fn read_row(text: &[u8], at: usize, table: &mut [i32], words: usize) -> Filled
     if 1524 < words {
         return numbers::wrong(words);
     }
-    let row = numbers::read_numbers(text, at, &mut table[words..words + 12], 0);
+    let end = words + 12;
+    let row = numbers::read_numbers(text, at, &mut table[words..end], 0);
     Filled {
         right: row.right,
-        count: words + 12,
+        count: end,
     }
 }
 
@@ -72,10 +73,11 @@ fn read_again(text: &[u8], at: usize, table: &mut [i32], words: usize) -> Filled
     if 128 < all {
         return numbers::wrong(words);
     }
-    copy_rows(table, words, rows, 12 * all);
+    let end = 12 * all;
+    copy_rows(table, words, rows, end);
     Filled {
-        right: (0 < rows) & (words <= 12 * all),
-        count: 12 * all,
+        right: (0 < rows) & (words <= end),
+        count: end,
     }
 }
 

@@ -130,6 +130,7 @@ fn tell_counts(counts: [u64; 7]) {
 
 // Makes the list of a window and compares it, or tells why there is none.
 fn compare_list(table: &[i32], w: Window, columns: &[i32], codes: &[i32], frames: &[i32]) {
+    // room for 12 products: a zone that has more is told as refused
     let mut list: [u64; 32] = [0; 32];
     let made = zone::make_list(table, w, &mut list);
     match made {
@@ -152,7 +153,7 @@ fn read_axis(text: &[u8], at: usize, into: &mut [i32]) -> usize
     0
 }
 
-// Compares at the coordinates that are set; false if there is no point.
+// Compares at the coordinates that are set; false if an axis has none.
 fn compare_at(text: &[u8], held: &[usize; 11], table: &[i32], w: Window) -> bool {
     let mut xs: [i32; 64] = [0; 64];
     let mut ys: [i32; 64] = [0; 64];
@@ -164,7 +165,7 @@ fn compare_at(text: &[u8], held: &[usize; 11], table: &[i32], w: Window) -> bool
     (0 < columns) & (0 < codes) & (0 < frames)
 }
 
-// Compares in the window that a line's numbers give; false if they are not six, or there is no point to compare at.
+// Compares in the window that a line's numbers give; false if they are not six, or an axis has no coordinate.
 pub fn compare(text: &[u8], at: usize, held: &[usize; 11], table: &[i32]) -> bool {
     let bounds = numbers::read_window(text, at);
     if !bounds.right {

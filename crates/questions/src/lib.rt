@@ -37,14 +37,6 @@ const CODES: usize = 9;
 
 const FRAMES: usize = 10;
 
-fn word_at(text: &[u8], at: usize) -> Word
-    requires { ⌜ at ≤ length (now text) ⌝ }
-{
-    let words =
-        b"\nrow\nwords\nagain\nzone\nlist\nframe\nwindow\ncolumns\ncodes\nframes\ncheck_table\ntree_point\ntree_search\nlist_point\nlist_search\nmake_list\ncompare\n";
-    lines::read_word(text, at, words)
-}
-
 // Keeps where the last line with each word goes on.
 fn keep(held: &mut [usize; 11], word: Word) {
     let place = word.place;
@@ -79,7 +71,11 @@ fn obey_all(text: &[u8]) {
     let mut line: u64 = 1;
     while at < text.len() {
         let start = lines::name_end(text, at);
-        let word = word_at(text, start);
+        let word = lines::read_word(
+            text,
+            start,
+            b"\nrow\nwords\nagain\nzone\nlist\nframe\nwindow\ncolumns\ncodes\nframes\ncheck_table\ntree_point\ntree_search\nlist_point\nlist_search\nmake_list\ncompare\n",
+        );
         keep(&mut held, word);
         if !obey(text, at, start, word, &held) {
             lines::fault(line);

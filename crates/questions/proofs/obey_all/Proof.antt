@@ -5,10 +5,10 @@ use Rattle.questions.proofs.obey_all.Statement.{statement}
 use Rattle.questions.proofs.obey_all.Tie as tie
 
 abbrev Inv-loop : tie.InvT-loop
-Inv-loop text held₀ at₀ line₀ held at line = (at ≤ length text) × (line ≤ at + 1)
+Inv-loop text held₀ at₀ line₀ t7 held at line = (at ≤ length text) × (line ≤ at + 1)
 
 abbrev μ-loop : tie.MeasureT-loop
-μ-loop text held₀ at₀ line₀ held at line = length text - at
+μ-loop text held₀ at₀ line₀ t7 held at line = length text - at
 
 loop-holds : tie.Need-loop-holds Inv-loop μ-loop
 loop-holds c = search needs
@@ -16,8 +16,11 @@ loop-holds c = search needs
 name-end-requires : tie.Need-name-end-requires Inv-loop μ-loop
 name-end-requires c κs = search needs
 
-word-at-requires : tie.Need-word-at-requires Inv-loop μ-loop
-word-at-requires c κs = search needs
+slice-aggregate-read-word : tie.Need-slice-aggregate-read-word Inv-loop μ-loop
+slice-aggregate-read-word c = search needs
+
+read-word-requires : tie.Need-read-word-requires Inv-loop μ-loop
+read-word-requires c κs = search needs
 
 keep-requires : tie.Need-keep-requires Inv-loop μ-loop
 keep-requires c κs = search needs
@@ -54,7 +57,8 @@ obey-all-spec =
     μ-loop
     loop-holds
     name-end-requires
-    word-at-requires
+    slice-aggregate-read-word
+    read-word-requires
     keep-requires
     obey-requires
     fault-requires
