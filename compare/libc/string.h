@@ -5,6 +5,7 @@
 
 void *memcpy(void *, const void *, size_t);
 void *memmove(void *, const void *, size_t);
+int strcmp(const char *, const char *);
 void *memset(void *, int, size_t);
 int memcmp(const void *, const void *, size_t);
 size_t strlen(const char *);
