@@ -1,6 +1,7 @@
 // Lines of data for the programs. A line is a name and a tab, which it may lack, a word, and numbers with a space before each:
 //     case 5, column 8<tab>tree_point 8 0 0
 // An empty line, and one that begins with #, is for the reader.
+pub mod answers;
 pub mod numbers;
 pub mod rows;
 pub mod words;

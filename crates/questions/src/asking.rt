@@ -1,7 +1,7 @@
 // The calls, asked and told.
-use crate::comparing;
-use crate::telling;
+use comparing::Axes;
 use lines::Word;
+use lines::answers;
 use lines::numbers;
 use lines::words;
 use rules::Place;
@@ -40,11 +40,11 @@ fn tell_list(table: &[i32], window: Window, list: &mut [u64], room: usize)
     let answer = zone::make_list(table, window, &mut list[0..room]);
     match answer {
         Written::Wrote(n) => {
-            telling::wrote(list, n);
+            answers::wrote(list, n);
         }
         Written::Refused(r) => {
-            telling::refused(r);
-            telling::buffer(list, 0);
+            answers::refused(r);
+            answers::buffer(list, 0);
         }
     }
 }
@@ -62,7 +62,7 @@ fn make_list(text: &[u8], window: usize, n: [i32; 3], table: &[i32]) -> bool {
     if of < room {
         return false;
     }
-    let mut list: [u64; 256] = [telling::FILL; 256];
+    let mut list: [u64; 256] = [answers::FILL; 256];
     tell_list(table, bounds.window, &mut list[0..of], room);
     true
 }
@@ -83,10 +83,10 @@ fn search(
     let count = read.count;
     let samples = &codes[0..count];
     if call == TREE_SEARCH {
-        telling::searched(zone::tree_search(table, samples, place));
+        answers::searched(zone::tree_search(table, samples, place));
         return true;
     }
-    telling::searched(zone::list_search(table, list, samples, place));
+    answers::searched(zone::list_search(table, list, samples, place));
     true
 }
 
@@ -100,7 +100,7 @@ fn ask_more(text: &[u8], call: usize, held: &[usize; 11], n: [i32; 3], table: &[
     let count = read.count;
     let list = &words[0..count];
     if call == LIST_POINT {
-        telling::located(zone::list_point(table, list, point_of(n)));
+        answers::located(zone::list_point(table, list, point_of(n)));
         return true;
     }
     let place = Place {
@@ -126,11 +126,11 @@ fn numbers_of(call: usize) -> usize {
 
 fn tell(text: &[u8], call: usize, held: &[usize; 11], n: [i32; 3], table: &[i32]) -> bool {
     if call == CHECK_TABLE {
-        telling::checked(zone::check_table(table));
+        answers::checked(zone::check_table(table));
         return true;
     }
     if call == TREE_POINT {
-        telling::located(zone::tree_point(table, point_of(n)));
+        answers::located(zone::tree_point(table, point_of(n)));
         return true;
     }
     if call == MAKE_LIST {
@@ -142,7 +142,12 @@ fn tell(text: &[u8], call: usize, held: &[usize; 11], n: [i32; 3], table: &[i32]
 // Asks, and tells the answer, if the word is a call that has its numbers.
 pub fn ask(text: &[u8], word: Word, held: &[usize; 11], table: &[i32]) -> bool {
     if word.place == COMPARE {
-        return comparing::compare(text, word.next, held, table);
+        let axes = Axes {
+            columns: held[crate::COLUMNS],
+            codes: held[crate::CODES],
+            frames: held[crate::FRAMES],
+        };
+        return comparing::compare(text, word.next, axes, table);
     }
     let mut n: [i32; 3] = [0; 3];
     let read = numbers::read_numbers(text, word.next, &mut n, 0);

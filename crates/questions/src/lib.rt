@@ -14,8 +14,6 @@
 // and frames; it prints how many products there are, and how often each finding (comparing) is made. A line that is none of these, or has other
 // numbers, or asks of what has, is told and ends the run.
 mod asking;
-mod comparing;
-mod telling;
 
 use lines::Word;
 use lines::rows;

@@ -2,7 +2,7 @@
 //
 // At a point one of six findings is made: list and tree say outside; both say inside; the list refuses a point whose column is out of its window; or
 // whose code is, or its frame; or else, and then they disagree.
-use crate::telling;
+use lines::answers;
 use lines::numbers;
 use rules::Located;
 use rules::Point;
@@ -11,6 +11,13 @@ use rules::Window;
 use rules::Written;
 ghost use Prim.Native.Nat.{_≤_};
 ghost use lib.ListN.{length};
+
+// Where in a text the coordinates of each axis stand.
+pub struct Axes {
+    pub columns: usize,
+    pub codes: usize,
+    pub frames: usize,
+}
 
 const OUTSIDE: usize = 0;
 
@@ -120,12 +127,12 @@ fn ask_all(
 }
 
 fn tell_counts(counts: [u64; 7]) {
-    telling::number(counts[0]);
-    telling::number(counts[1]);
-    telling::number(counts[2]);
-    telling::number(counts[3]);
-    telling::number(counts[4]);
-    telling::number(counts[5]);
+    answers::number(counts[0]);
+    answers::number(counts[1]);
+    answers::number(counts[2]);
+    answers::number(counts[3]);
+    answers::number(counts[4]);
+    answers::number(counts[5]);
 }
 
 // Makes the list of a window and compares it, or tells why there is none.
@@ -138,7 +145,7 @@ fn compare_list(table: &[i32], w: Window, columns: &[i32], codes: &[i32], frames
             io::print_decimal(1, list[0]);
             tell_counts(ask_all(table, &list, columns, codes, frames));
         }
-        Written::Refused(r) => telling::refused(r),
+        Written::Refused(r) => answers::refused(r),
     }
 }
 
@@ -154,22 +161,22 @@ fn read_axis(text: &[u8], at: usize, into: &mut [i32]) -> usize
 }
 
 // Compares at the coordinates that are set; false if an axis has none.
-fn compare_at(text: &[u8], held: &[usize; 11], table: &[i32], w: Window) -> bool {
+fn compare_at(text: &[u8], axes: Axes, table: &[i32], w: Window) -> bool {
     let mut xs: [i32; 64] = [0; 64];
     let mut ys: [i32; 64] = [0; 64];
     let mut zs: [i32; 64] = [0; 64];
-    let columns = read_axis(text, held[crate::COLUMNS], &mut xs);
-    let codes = read_axis(text, held[crate::CODES], &mut ys);
-    let frames = read_axis(text, held[crate::FRAMES], &mut zs);
+    let columns = read_axis(text, axes.columns, &mut xs);
+    let codes = read_axis(text, axes.codes, &mut ys);
+    let frames = read_axis(text, axes.frames, &mut zs);
     compare_list(table, w, &xs[0..columns], &ys[0..codes], &zs[0..frames]);
     (0 < columns) & (0 < codes) & (0 < frames)
 }
 
 // Compares in the window that a line's numbers give; false if they are not six, or an axis has no coordinate.
-pub fn compare(text: &[u8], at: usize, held: &[usize; 11], table: &[i32]) -> bool {
+pub fn compare(text: &[u8], at: usize, axes: Axes, table: &[i32]) -> bool {
     let bounds = numbers::read_window(text, at);
     if !bounds.right {
         return false;
     }
-    compare_at(text, held, table, bounds.window)
+    compare_at(text, axes, table, bounds.window)
 }

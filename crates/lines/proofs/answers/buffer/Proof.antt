@@ -1,8 +1,8 @@
 use Prim.Native.Nat.{_≤_, _-_}
 use lib.ListN.{length}
 use borrow.Author.Needs.{needs}
-use Rattle.questions.proofs.telling.buffer.Statement.{statement}
-use Rattle.questions.proofs.telling.buffer.Tie as tie
+use Rattle.lines.proofs.answers.buffer.Statement.{statement}
+use Rattle.lines.proofs.answers.buffer.Tie as tie
 
 abbrev Inv-loop : tie.InvT-loop
 Inv-loop list n kept₀ i₀ t5 kept i = (i ≤ length list) × (kept ≤ i)

@@ -1,7 +1,7 @@
 use Prim.Native.Nat.{_≤_, _-_}
 use borrow.Author.Needs.{needs}
-use Rattle.questions.proofs.comparing.ask_all.Statement.{statement}
-use Rattle.questions.proofs.comparing.ask_all.Tie as tie
+use Rattle.comparing.proofs.ask_all.Statement.{statement}
+use Rattle.comparing.proofs.ask_all.Tie as tie
 
 abbrev Inv-loop : tie.InvT-loop
 Inv-loop table list columns codes frames counts₀ k₀ counts k = k ≤ 262144
