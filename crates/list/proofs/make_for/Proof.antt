@@ -1,5 +1,6 @@
 -- The ways, then the list. Assumes nothing.
 use Prim.Native.Nat.{ℕ}
+use native.Mathlib.Omega.{arith}
 use mathlib.Core.Path.{sym, _∙_}
 use borrow.Author.Needs.{needs}
 use lib.ListN.{length-replicate}
@@ -29,7 +30,7 @@ make-of-requires c κs =
     let at-ways-of = c .before .before .before in
     let at-number-rows = at-ways-of .before .before in
     let s = at-number-rows .before .before .before in
-    (s .pre, ((at-number-rows .number-rows .ensures .1, at-number-rows .number-rows .ensures .0), (at-ways-of .ways-of .ensures, c .before .before .if1 .left)))
+    (s .pre, ((at-number-rows .number-rows .ensures .1, at-number-rows .number-rows .ensures .0), (at-ways-of .ways-of .ensures, omega (arith, c .before .before .if1 .left))))
 
 same-length : tie.Need-same-length
 same-length c = search needs
