@@ -8,7 +8,7 @@ use table::Named;
 ghost use Prim.Native.Nat.{_+_, _≤_};
 ghost use mathlib.Core.Option.{none};
 ghost use mathlib.Core.Path.{_≡_};
-ghost use lib.ListN.{length, take};
+ghost use lib.ListN.{length};
 ghost use Rattle.rules.specs.Kinds.{namedWords};
 ghost use Rattle.rules.specs.Table.{mostRows, rowCount};
 ghost use Rattle.rules.specs.Text.{kindName, headerLine, fieldText};
@@ -32,27 +32,18 @@ fn name_length(kind: Kind) -> usize
     }
 }
 
-// The name of a kind, and spaces up to five bytes.
-fn name_of(kind: Kind) -> [u8; 5]
-    ensures { λ r. ⌜ take (length (kindName kind)) r ≡ kindName kind ⌝ }
-{
-    match kind {
-        Kind::Box => *b"box  ",
-        Kind::Wedge => *b"wedge",
-        Kind::Drum => *b"drum ",
-        Kind::Union => *b"union",
-        Kind::Inter => *b"inter",
-        Kind::Diff => *b"diff ",
-    }
-}
-
 fn put_name(text: &mut [u8], at: usize, kind: Kind) -> usize
     requires { ⌜ at + length (kindName kind) ≤ length (now text) ⌝ }
     ensures { λ r. ⌜ Put (now (text .entry)) at (kindName kind) (now (text .exit)) r ⌝ }
 {
-    let name = name_of(kind);
-    let size = name_length(kind);
-    number::put_bytes(text, at, &name[..size])
+    match kind {
+        Kind::Box => number::put_bytes(text, at, b"box"),
+        Kind::Wedge => number::put_bytes(text, at, b"wedge"),
+        Kind::Drum => number::put_bytes(text, at, b"drum"),
+        Kind::Union => number::put_bytes(text, at, b"union"),
+        Kind::Inter => number::put_bytes(text, at, b"inter"),
+        Kind::Diff => number::put_bytes(text, at, b"diff"),
+    }
 }
 
 // A tab, and a number.
