@@ -31,11 +31,11 @@ fn measure(
     requires { ⌜ (length (walkAt (now links) (now masks) end (startOf seen)) ≤ ways) × (ways ≤ mostChoices) ⌝ }
     ensures { λ r. ⌜ Measured (placeOf (length (walkAt (now (links .entry)) (now (masks .entry)) end (startOf seen)))) (length (now (list .entry))) r × (now (list .exit) ≡ now (list .entry)) ⌝ }
 {
-    let most = rules::HEADER_WORDS + rules::PRODUCT_WORDS * (ways as usize);
+    let most = layout::place_of(ways as usize);
     if most <= list.len() {
         return most;
     }
-    rules::HEADER_WORDS + rules::PRODUCT_WORDS * walk::walk(links, masks, end, seen, list, false)
+    layout::place_of(walk::walk(links, masks, end, seen, list, false))
 }
 
 // The ways are not too many: the room, then the list.
@@ -65,7 +65,7 @@ fn make_of(
     }
     let n = walk::walk(&links, &masks, end, seen, list, true);
     layout::write_header(list, w, solids, n);
-    Written::Wrote(rules::HEADER_WORDS + rules::PRODUCT_WORDS * n)
+    Written::Wrote(layout::place_of(n))
 }
 
 // How many ways there are, the counts of the rows being remembered only here.

@@ -1,7 +1,6 @@
 -- The walk over rows: where it goes on and where it stops; what is written. Assumes nothing.
 use Prim.Native.Nat.{ℕ, zero, suc, _+_, _-_, _*_, _^_, _≤_, _<_}
 use native.Mathlib.Nat.{add-zero, two-pow-succ}
-use native.Mathlib.Numerals.{add-one}
 use native.Mathlib.Omega.{arith}
 use mathlib.Core.Bool.{Bool, true, false, not, _&&_}
 use mathlib.Core.List.{List, [], _∷_, _++_, flatMap, append-assoc, append-nil}
@@ -9,7 +8,7 @@ use mathlib.Core.Path.{_≡_, refl, sym, ap, ap₂, subst, _∙_}
 use borrow.Author.Tests.{eq-eqb, ne-eqb, eqb-true, eqb-false}
 use lib.Bits.{bitAnd}
 use lib.Dec.{eqb}
-use lib.ListN.{length, set, length-append}
+use lib.ListN.{length, length-append}
 use lib.Pow.{pow-mono}
 use lib.Seq.{sets, length-sets}
 use Rattle.ground.specs.Tests.{if_then_else_}
@@ -229,13 +228,11 @@ put-none keeps l n e = subst (Put keeps l l n n) (sym e) (record { count = sym (
     go true = refl
     go false = refl
 
-pub put-one : (l : List ℕ) (n plain cuts : ℕ) {products : List Product} → products ≡ record { plain = plain; cuts = cuts } ∷ []
-    → {keeps : Bool} → keeps ≡ true → Put keeps l (set (set l (placeOf n) plain) (placeOf n + 1) cuts) n (n + 1) products
+pub put-one : {l after : List ℕ} (n : ℕ) (c : Product) {products : List Product} → products ≡ c ∷ [] → after ≡ sets l (placeOf n) (wordsOf c)
+    → {keeps : Bool} → keeps ≡ true → Put keeps l after n (n + 1) products
 unfolding flatMap
-put-one l n plain cuts {products} e {keeps} k =
-    subst (λ (b : Bool). Put b l (set (set l (placeOf n) plain) (placeOf n + 1) cuts) n (n + 1) products) (sym k)
-    (subst (Put true l (set (set l (placeOf n) plain) (placeOf n + 1) cuts) n (n + 1)) (sym e)
-    (record { count = refl; words = ap (λ (j : ℕ). set (set l (placeOf n) plain) j cuts) (add-one (placeOf n)) }))
+put-one {l} {after} n c {products} e w {keeps} k =
+    subst (λ (b : Bool). Put b l after n (n + 1) products) (sym k) (subst (Put true l after n (n + 1)) (sym e) (record { count = refl; words = w }))
 
 pub count-one : (l : List ℕ) (n : ℕ) {c : Product} {products : List Product} → products ≡ c ∷ [] → {keeps : Bool} → keeps ≡ false → Put keeps l l n (n + 1) products
 count-one l n {c} {products} e {keeps} k = subst (λ (b : Bool). Put b l l n (n + 1) products) (sym k) (subst (Put false l l n (n + 1)) (sym e) (record { count = refl; words = refl }))

@@ -2,6 +2,7 @@
 use crate::Stop;
 use places::Place;
 use rows::fields;
+use rules::Product;
 ghost use Prim.Native.Nat.{_+_, _≤_};
 ghost use mathlib.Core.Bool.{true, false};
 ghost use mathlib.Core.List.{_∷_};
@@ -87,9 +88,11 @@ fn finish(
         return count;
     }
     if keeps {
-        let first = rules::HEADER_WORDS + rules::PRODUCT_WORDS * count;
-        list[first] = at.plain;
-        list[first + 1] = at.cuts & at.reach;
+        let kept = Product {
+            plain: at.plain,
+            cuts: at.cuts & at.reach,
+        };
+        layout::put_product(list, count, kept);
         return count + 1;
     }
     count + 1

@@ -23,7 +23,10 @@ columns-told c =
 refused-requires : tie.Need-refused-requires
 refused-requires c κs = search needs
 
-frame-told : (c : tie.After-in-range) → c .in-range .result ≡ within frames (c .before .before .before .before .before .before .args .place .frame)
+frame-told : (c : tie.After-in-range) →
+    let at-columns-right = c .before .before .before in
+    let s = at-columns-right .before .before .before in
+    c .in-range .result ≡ within frames (s .args .place .frame)
 frame-told c =
     let at-columns-right = c .before .before .before in
     let s = at-columns-right .before .before .before in

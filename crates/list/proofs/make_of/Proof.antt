@@ -95,30 +95,21 @@ write-header-requires c κs =
     let at-lay = at-measure .before .before .before .before in
     ((start at-lay) .pre .0 .1, omega (arith, there r, put-length true (at-walk .walk .ensures), ap length (at-measure .measure .ensures .1)))
 
-mul-t19 : tie.Need-mul-t19
-mul-t19 c =
+place-of-requires : tie.Need-place-of-requires
+place-of-requires c κs =
     let at-write-header = c .before .before in
     let at-walk = at-write-header .before .before .before .before in
     let else1 = at-walk .before .before .before .before in
     let at-measure = else1 .before .before .before in
     let at-lay = at-measure .before .before .before .before in
-    record { fits = omega (arith, at-walk .walk .ensures .count, all-few at-lay, (start at-lay) .pre .1 .1 .1) }
-
-add-t30 : tie.Need-add-t30
-add-t30 c =
-    let at-write-header = c .before .before in
-    let at-walk = at-write-header .before .before .before .before in
-    let else1 = at-walk .before .before .before .before in
-    let at-measure = else1 .before .before .before in
-    let at-lay = at-measure .before .before .before .before in
-    record { fits = omega (arith, at-walk .walk .ensures .count, all-few at-lay, (start at-lay) .pre .1 .1 .1) }
+    omega (arith, at-walk .walk .ensures .count, all-few at-lay, (start at-lay) .pre .1 .1 .1)
 
 same-length-2 : tie.Need-same-length-2
 same-length-2 c = search needs
 
 returns-2 : tie.Need-returns-2
 returns-2 c =
-    let at-write-header = c .before .before in
+    let at-write-header = c .before .before .before in
     let at-walk = at-write-header .before .before .before .before in
     let else1 = at-walk .before .before .before .before in
     let at-measure = else1 .before .before .before in
@@ -127,7 +118,7 @@ returns-2 c =
     let put = at-walk .walk in
     let n : put .result ≡ length (all m) = omega (arith, put .ensures .count) in
     let now = put .ensures .words ∙ ap (λ (l : List ℕ). sets l headerWords (flatMap wordsOf (all m))) (at-measure .measure .ensures .1) in
-    made-fine (s .args .table .now) (s .args .w) (s .args .list .now) (s .pre .0 .0) (s .pre .0 .1) (not-many s) (ap placeOf n ∙ all-words m) (omega (arith, n, there else1))
+    made-fine (s .args .table .now) (s .args .w) (s .args .list .now) (s .pre .0 .0) (s .pre .0 .1) (not-many s) (c .place-of .ensures ∙ ap placeOf n ∙ all-words m) (omega (arith, c .place-of .ensures, n, there else1))
     (list-written (s .args .table .now) (s .args .w) (s .args .list .now) (all-products m) n (s .pre .1 .0 .1) (there else1) now (at-write-header .write-header .ensures))
 
 pub make-of-spec : {M : Type 1} → statement M
@@ -141,7 +132,6 @@ make-of-spec =
     returns
     walk-requires
     write-header-requires
-    mul-t19
-    add-t30
+    place-of-requires
     same-length-2
     returns-2)

@@ -6,25 +6,19 @@ use borrow.Author.Needs.{needs}
 use Rattle.list.proofs.measure.Statement.{statement}
 use Rattle.list.proofs.measure.Tie as tie
 
-mul-most : tie.Need-mul-most
-mul-most c = search needs
-
-add-most : tie.Need-add-most
-add-most c = search needs
+place-of-requires : tie.Need-place-of-requires
+place-of-requires c κs = omega (arith, c .before .pre .1 .1)
 
 returns : tie.Need-returns
 returns c = search needs
 
 walk-requires : tie.Need-walk-requires
 walk-requires c κs =
-    let s = c .before .before .before in
+    let s = c .before .before .before .before in
     (s .pre .0, (omega (arith, s .pre .1), λ e. let z : _≡_ {A = ℕ} 0 1 = cc in absurd (omega arith)))
 
-mul-result : tie.Need-mul-result
-mul-result c = search needs
-
-add-result : tie.Need-add-result
-add-result c = search needs
+place-of-requires-2 : tie.Need-place-of-requires-2
+place-of-requires-2 c κs = search needs
 
 same-length : tie.Need-same-length
 same-length c = search needs
@@ -35,4 +29,4 @@ returns-2 c = search needs
 pub measure-spec : {M : Type 1} → statement M
 measure-spec =
     tie.close
-    (tie.spec mul-most add-most returns walk-requires mul-result add-result same-length returns-2)
+    (tie.spec place-of-requires returns walk-requires place-of-requires-2 same-length returns-2)

@@ -1,7 +1,10 @@
 -- The product where a walk stops. Assumes nothing.
 use native.Mathlib.Omega.{arith}
-use mathlib.Core.Path.{ap}
-use lib.ListN.{length, length-set}
+use mathlib.Core.List.{[], _∷_}
+use mathlib.Core.Path.{_≡_, ap}
+use lib.Bits.{bitAnd}
+use lib.ListN.{length}
+use Rattle.walk.specs.Tracks.{endOf}
 use Rattle.walk.proofs.Tracks.{end-not, end-dead, end-stale, end-new, put-none, put-one, count-one}
 use borrow.Author.Needs.{needs}
 use Rattle.walk.proofs.steps.finish.Statement.{statement}
@@ -31,35 +34,25 @@ returns-3 c =
     let s = else1 .before .before .before in
     put-none (s .args .keeps) (s .args .list .now) (s .args .count) (end-stale (s .args .links .now) (s .args .masks .now) (s .args .at) (s .args .end) (else1 .if1 .left) (c .before .before .if2 .left) (at-stale-at .stale-at .ensures) (c .if3 .taken))
 
-mul-first : tie.Need-mul-first
-mul-first c = search needs
+-- past all tests there is a product
+module _ (e : tie.Else3) where
+  abbrev start : tie.Start
+  start =
+      let else2 = e .before .before in
+      let else1 = else2 .before .before .before in
+      else1 .before .before .before
 
-add-first : tie.Need-add-first
-add-first c = search needs
+  new-one : endOf (start .args .links .now) (start .args .masks .now) (start .args .end) (start .args .at)
+      ≡ record { plain = start .args .at .plain; cuts = bitAnd (start .args .at .cuts) (start .args .at .reach) } ∷ []
+  new-one =
+      let else2 = e .before .before in
+      let else1 = else2 .before .before .before in
+      end-new (start .args .links .now) (start .args .masks .now) (start .args .at) (start .args .end) (else1 .if1 .left) (else2 .if2 .left) (e .before .stale-at .ensures) (e .if3 .left)
 
-mul-list : tie.Need-mul-list
-mul-list c = search needs
-
-slice-write-list : tie.Need-slice-write-list
-slice-write-list c =
-    let else2 = c .before .before .before in
-    let else1 = else2 .before .before .before in
-    let s = else1 .before .before .before in
-    omega (arith, s .pre .1 .1 (c .if4 .taken), ap length (end-new (s .args .links .now) (s .args .masks .now) (s .args .at) (s .args .end) (else1 .if1 .left) (else2 .if2 .left) (c .before .before .stale-at .ensures) (c .before .if3 .left)))
-
-add-list : tie.Need-add-list
-add-list c = search needs
-
-mul-list-2 : tie.Need-mul-list-2
-mul-list-2 c = search needs
-
-slice-write-list-2 : tie.Need-slice-write-list-2
-slice-write-list-2 c =
-    let at-stale-at = c .before .before .before in
-    let else2 = at-stale-at .before in
-    let else1 = else2 .before .before .before in
-    let s = else1 .before .before .before in
-    simp length-set (omega (arith, s .pre .1 .1 (c .before .if4 .taken), ap length (end-new (s .args .links .now) (s .args .masks .now) (s .args .at) (s .args .end) (else1 .if1 .left) (else2 .if2 .left) (at-stale-at .stale-at .ensures) (c .before .before .if3 .left))))
+put-product-requires : tie.Need-put-product-requires
+put-product-requires c κs =
+    let then4 = c .before .before in
+    omega (arith, start (then4 .before) .pre .1 .1 (then4 .if4 .taken), ap length (new-one (then4 .before)))
 
 add-result : tie.Need-add-result
 add-result c = search needs
@@ -69,21 +62,17 @@ same-length c = search needs
 
 returns-4 : tie.Need-returns-4
 returns-4 c =
-    let at-stale-at = c .before .before .before in
-    let else2 = at-stale-at .before in
-    let else1 = else2 .before .before .before in
-    let s = else1 .before .before .before in
-    put-one (s .args .list .now) (s .args .count) _ _ (end-new (s .args .links .now) (s .args .masks .now) (s .args .at) (s .args .end) (else1 .if1 .left) (else2 .if2 .left) (at-stale-at .stale-at .ensures) (c .before .before .if3 .left)) (c .before .if4 .taken)
+    let put = c .before .before in
+    let then4 = put .before .before .before in
+    put-one (start (then4 .before) .args .count) _ (new-one (then4 .before)) (put .put-product .ensures) (then4 .if4 .taken)
 
 add-result-2 : tie.Need-add-result-2
 add-result-2 c = search needs
 
 returns-5 : tie.Need-returns-5
 returns-5 c =
-    let else2 = c .before .before .before in
-    let else1 = else2 .before .before .before in
-    let s = else1 .before .before .before in
-    count-one (s .args .list .now) (s .args .count) (end-new (s .args .links .now) (s .args .masks .now) (s .args .at) (s .args .end) (else1 .if1 .left) (else2 .if2 .left) (c .before .before .stale-at .ensures) (c .before .if3 .left)) (c .if4 .left)
+    let s = start (c .before) in
+    count-one (s .args .list .now) (s .args .count) (new-one (c .before)) (c .if4 .left)
 
 pub finish-spec : {M : Type 1} → statement M
 finish-spec =
@@ -93,13 +82,7 @@ finish-spec =
     returns-2
     stale-at-requires
     returns-3
-    mul-first
-    add-first
-    mul-list
-    slice-write-list
-    add-list
-    mul-list-2
-    slice-write-list-2
+    put-product-requires
     add-result
     same-length
     returns-4
