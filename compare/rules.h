@@ -13,8 +13,8 @@ enum { X, Y, Z, AXES };
 #define GREATEST_COLUMN 32767
 #define LEAST_CODE (-32768)
 #define GREATEST_CODE 32767
-#define LEAST_FRAME (-32768)
-#define GREATEST_FRAME 32767
+#define LEAST_FRAME (-1048576)
+#define GREATEST_FRAME 1048575
 
 #define ALL_COLUMNS LEAST_COLUMN, GREATEST_COLUMN
 #define ALL_CODES LEAST_CODE, GREATEST_CODE
@@ -27,7 +27,7 @@ struct axis_limits {
 };
 
 static const struct axis_limits limits[AXES] = {
-    [X] = {ALL_COLUMNS, 32768}, [Y] = {ALL_CODES, 32768}, [Z] = {ALL_FRAMES, 32768},
+    [X] = {ALL_COLUMNS, 32768}, [Y] = {ALL_CODES, 32768}, [Z] = {ALL_FRAMES, 1048576},
 };
 
 static inline int is_coordinate(int axis, int64_t value)

@@ -137,11 +137,12 @@ static const struct walk nested_walks[] = {
 
 static const int32_t range_rows[][ROW_WORDS] = {
     {BOX, FULL_RANGE},
-    {BOX, LEAST_COLUMN, -32761, LEAST_CODE, -32761, LEAST_FRAME, -32761},
-    {WEDGE, LEAST_COLUMN, -32761, LEAST_CODE, -32761, LEAST_FRAME, -32761, 1, 1, 1, -98296},
+    {BOX, LEAST_COLUMN, LEAST_COLUMN + 7, LEAST_CODE, LEAST_CODE + 7, LEAST_FRAME, LEAST_FRAME + 7},
+    {WEDGE, LEAST_COLUMN, LEAST_COLUMN + 7, LEAST_CODE, LEAST_CODE + 7, LEAST_FRAME, LEAST_FRAME + 7,
+     1, 1, 1, LEAST_COLUMN + LEAST_CODE + LEAST_FRAME + 8},
     {DIFF, 1, 2},
     {DIFF, 0, 3},
-    {DRUM, 28671, 28671, 4096, 4096, 32760, GREATEST_FRAME},
+    {DRUM, 28671, 28671, 4096, 4096, GREATEST_FRAME - 7, GREATEST_FRAME},
     {DIFF, 4, 5},
 };
 
@@ -155,17 +156,38 @@ static const struct walk range_walks[] = {
     {"corners at the greatest code and frame",
      {LEAST_COLUMN, LEAST_COLUMN, GREATEST_CODE, GREATEST_CODE, GREATEST_FRAME, GREATEST_FRAME}, X, 65535, 65535, 2},
     {"growing from the lowest corner over columns",
-     {LEAST_COLUMN, -32767, LEAST_CODE, LEAST_CODE, LEAST_FRAME, LEAST_FRAME}, X, 0, 1, 9},
+     {LEAST_COLUMN, LEAST_COLUMN + 1, LEAST_CODE, LEAST_CODE, LEAST_FRAME, LEAST_FRAME}, X, 0, 1, 9},
     {"growing from the lowest corner over codes",
-     {LEAST_COLUMN, -32760, LEAST_CODE, LEAST_CODE, LEAST_FRAME, -32766}, Y, 0, 1, 10},
-    {"pushed against the least column", {-32766, -32763, LEAST_CODE, -32760, LEAST_FRAME, -32760}, X, -1, -1, 6},
-    {"pushed against the greatest frame", {32764, GREATEST_COLUMN, 32764, GREATEST_CODE, 32764, GREATEST_FRAME}, Z, 1, 1, 4},
-    {"out of the box in the corner", {-32764, -32757, -32764, -32757, -32764, -32757}, Z, 1, 1, 5},
-    {"into the drum", {31565, 31569, 31565, 31569, 32757, 32758}, Z, 1, 1, 5},
-    {"along the drum's last column", {32764, GREATEST_COLUMN, 28664, 28668, 32760, 32761}, Y, 1, 1, 8},
-    {"up to the drum's first column", {24573, 24574, 28670, 28672, 32759, 32760}, X, 0, 1, 3},
+     {LEAST_COLUMN, LEAST_COLUMN + 8, LEAST_CODE, LEAST_CODE, LEAST_FRAME, LEAST_FRAME + 2}, Y, 0, 1, 10},
+    {"pushed against the least column",
+     {LEAST_COLUMN + 2, LEAST_COLUMN + 5, LEAST_CODE, LEAST_CODE + 8, LEAST_FRAME, LEAST_FRAME + 8}, X, -1, -1, 6},
+    {"pushed against the greatest frame",
+     {GREATEST_COLUMN - 3, GREATEST_COLUMN, GREATEST_CODE - 3, GREATEST_CODE, GREATEST_FRAME - 3, GREATEST_FRAME}, Z, 1, 1, 4},
+    {"out of the box in the corner",
+     {LEAST_COLUMN + 4, LEAST_COLUMN + 11, LEAST_CODE + 4, LEAST_CODE + 11, LEAST_FRAME + 4, LEAST_FRAME + 11}, Z, 1, 1, 5},
+    {"into the drum", {31565, 31569, 31565, 31569, GREATEST_FRAME - 10, GREATEST_FRAME - 9}, Z, 1, 1, 5},
+    {"along the drum's last column",
+     {GREATEST_COLUMN - 3, GREATEST_COLUMN, 28664, 28668, GREATEST_FRAME - 7, GREATEST_FRAME - 6}, Y, 1, 1, 8},
+    {"up to the drum's first column", {24573, 24574, 28670, 28672, GREATEST_FRAME - 8, GREATEST_FRAME - 7}, X, 0, 1, 3},
     {"two halves of the range", {LEAST_COLUMN, -1, ALL_CODES, ALL_FRAMES}, X, 32768, 32768, 2},
     {"the range, shrinking over codes", {FULL_RANGE}, Y, 1, -1, 4},
+};
+
+static const int32_t steep_rows[][ROW_WORDS] = {
+    {WEDGE, FULL_RANGE, 1, 0, GREATEST_SLOPE, INT32_MAX}, {BOX, 0, 3, -2, 2, 32760, 65538}, {DIFF, 0, 1},
+};
+
+static const struct walk steep_walks[] = {
+    {"over the frames where 16 bits end", {-1, 4, -1, 1, 32765, 32766}, Z, 1, 1, 5},
+    {"over the frames where the plane passes", {-1, 4, -3, -1, 65535, 65537}, Z, 1, 1, 5},
+    {"along the last frame of B", {-2, 0, 1, 3, 65538, 65538}, X, 1, 1, 7},
+    {"growing from the columns where the plane leaves the range",
+     {LEAST_COLUMN, LEAST_COLUMN + 1, 0, 0, 65538, 65540}, X, 0, 1, 4},
+    {"neighbours over frames", {0, 3, 0, 0, 32752, 32759}, Z, 8, 8, 4},
+    {"shrinking over frames until its hi is below its lo", {1, 2, 2, 3, 65536, 65540}, Z, 1, -1, 4},
+    {"large windows that end where B ends", {ALL_COLUMNS, ALL_CODES, LEAST_FRAME, 65537}, Z, 0, 1, 4},
+    {"large windows that begin beyond B", {ALL_COLUMNS, ALL_CODES, 65540, GREATEST_FRAME}, Z, -1, 0, 4},
+    {"the range, and half of its frames", {FULL_RANGE}, Z, 524288, -524288, 2},
 };
 
 #define COUNT(array) (sizeof array / sizeof array[0])
@@ -181,6 +203,9 @@ static const struct zone zones[] = {
     ZONE("(A-(B-C))-D", range,
          "The whole range, less the part of a box in its lowest corner that a wedge leaves, and less a drum at its highest columns "
          "and codes."),
+    ZONE("A-B", steep,
+         "A wedge as steep over the frames as can be, less a box: its plane passes where a frame number takes 17 bits and its "
+         "product 32."),
 };
 
 /* Walks. */

@@ -147,7 +147,7 @@ static int check_trace(const struct example *example, const struct trace *trace,
 
 static int check_example(const struct example *example)
 {
-    struct lampholly_window full = {-32768, 32767, -32768, 32767, -32768, 32767};
+    struct lampholly_window full = {-32768, 32767, -32768, 32767, -1048576, 1048575};
     size_t words = read_zone(example->file);
     struct lampholly_answer made = lampholly_make_list(table, words, full, list, LAMPHOLLY_LIST_WORDS);
     int good = is_list_of(example, made);

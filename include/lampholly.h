@@ -11,8 +11,9 @@
       LAMPHOLLY_UNION    left right                  in left or in right
       LAMPHOLLY_INTER    left right                  in left and in right
       LAMPHOLLY_DIFF     left right                  in left and not in right
-   - x is the column, y the code, z the frame number: 0 is the newest frame, older ones are negative.
-   - A lo or hi is in -32768..32767, with lo <= hi; so are cx - rx, cx + rx, cy - ry and cy + ry. A radius is 1..4096.
+   - x is the column and y the code, each in -32768..32767; z is the frame number, in -1048576..1048575: 0 is the newest frame,
+     older ones are negative.
+   - A lo or hi is in the range of its axis, with lo <= hi; so are cx - rx, cx + rx, cy - ry and cy + ry. A radius is 1..4096.
      a, b and c are in -32768..32767 and not all 0; d is any 32-bit value.
    - left and right are numbers of earlier rows, counted from 0. Each row but the last is so named once; the last is the zone.
    - Boxes, wedges and drums are the primitives, numbered from 0 in the order of their rows. A table has at most 127 rows and
@@ -107,7 +108,7 @@ struct lampholly_answer lampholly_check(const int32_t *table, size_t words);
 /* Is the point in the zone?
    Answers: outside (0, 0, 0) or inside (0, 1, 0).
    Refusals: the table's; then
-     10  the point is out of -32768..32767      value: first bad axis, 0..2 */
+     10  a coordinate out of its axis' range     value: first bad axis, 0..2 */
 struct lampholly_answer lampholly_tree_point(const int32_t *table, size_t words, int32_t x, int32_t y, int32_t z);
 
 /* Searches a frame: sample k, counted from 0, is the point (first + k, codes[k], frame).
@@ -115,12 +116,13 @@ struct lampholly_answer lampholly_tree_point(const int32_t *table, size_t words,
    Refusals: the table's; then
      12  no sample or over 65,536               value: 0
          a column out of -32768..32767          value: 1
-         the frame number out of that range     value: 2 */
+         the frame out of -1048576..1048575     value: 2 */
 struct lampholly_answer lampholly_tree_search(const int32_t *table, size_t words,
                                               const int16_t *codes, size_t samples, int32_t first, int32_t frame);
 
 /* Normalises the zone to its list of products for the window, and writes that into list[0 .. room - 1].
-   Word 0: number of products. Words 1 to 6: the window's bounds, each plus 32768. Word 7: number of primitives.
+   Word 0: number of products. Words 1 to 4: the window's columns and codes, each plus 32768. Words 5 and 6: its frames, each plus
+   1048576. Word 7: number of primitives.
    From word 8, two words a product: a bit for each uncomplemented primitive, then a bit for each complemented one; primitive
    i is bit i.
    The list belongs to its table and its window. After a change of the table make it anew: a list of another zone with the same
@@ -132,7 +134,7 @@ struct lampholly_answer lampholly_tree_search(const int32_t *table, size_t words
       a difference has        in = left.in * right.out    out = left.out + right.in
    Answers: written (0, words written, 0). A zone that misses the window gives 0 products: 8 words.
    Refusals: the table's; then
-      6  a bound out of -32768..32767, or hi below lo (at hi)    value: first bad bound, 0..5, in the order of the struct
+      6  a bound out of its axis' range, or hi below lo (at hi)  value: first bad bound, 0..5, in the order of the struct
       7  the expansion count, before pruning, is over 65,536     value: that count
       8  no room                                                 value: words needed */
 struct lampholly_answer lampholly_make_list(const int32_t *table, size_t words, struct lampholly_window window,

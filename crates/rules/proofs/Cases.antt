@@ -1,4 +1,4 @@
--- Cases 1 to 12 of docs/RULES.md, section 14: one table, and one theorem that all of them hold. Assumes nothing.
+-- Cases 1 to 12 and 16 of docs/RULES.md, section 14: one table, and one theorem that all of them hold. Assumes nothing.
 use Prim.Native.Nat.{ℕ}
 use mathlib.Core.Path.{_≡_, refl}
 use mathlib.Core.List.{List, [], _∷_, map, flatMap}
@@ -8,6 +8,7 @@ use Rattle.ground.specs.Lists.{from, allOf, keepIf, countIf, findIf, firstOf}
 use Rattle.rules.specs.declared.Point.{Point}
 use Rattle.rules.specs.declared.Product.{Product}
 use Rattle.rules.specs.declared.Window.{Window}
+use Rattle.rules.specs.Boxes.{fullRange}
 use Rattle.rules.specs.Table.{primitives}
 use Rattle.rules.specs.Verdict.{tableRefusal}
 use Rattle.rules.specs.Tree.{trees, treeOf}
@@ -17,7 +18,7 @@ use Rattle.rules.specs.Products.{firsts, products}
 use Rattle.rules.specs.Refusals.{refuse}
 use Rattle.rules.specs.Told.{Told, fine, sound, inside as is-inside, outside, tell}
 use Rattle.rules.specs.TreeCalls.{treePointRefusal, pointTale}
-use Rattle.rules.proofs.Zones.{q, qApart, farCuts, crossing, cutOfCut, swapped, wedge, drum, twoBoxes, columnsOf, full, at}
+use Rattle.rules.proofs.Zones.{q, qApart, farCuts, crossing, cutOfCut, swapped, wedge, drum, twoBoxes, deepBox, steepWedge, columnsOf, at}
 
 -- what the definitions say of a zone
 pub data Says : Type 0 where
@@ -48,6 +49,12 @@ isIn = tells (fine is-inside)
 abbrev isOut : Says
 isOut = tells (fine outside)
 
+abbrev isSound : Says
+isSound = tells (fine sound)
+
+abbrev refused : ℕ → ℕ → Says
+refused number value = tells (tell (refuse number value) sound)
+
 abbrev row : ℕ → Says → Says → Case
 row number says expected = record { number = number; says = says; expected = expected }
 
@@ -67,17 +74,21 @@ cases =
     ∷ row 5 (point q (at 9 0)) isOut
     ∷ row 5 (point q (at 26 0)) isOut
     ∷ row 6 (expands (expansion (treeOf farCuts))) (expands 2)
-    ∷ row 6 (listIn full farCuts) (lists (product 1 0 ∷ []))
-    ∷ row 7 (listIn full crossing) (lists (product 5 0 ∷ product 6 0 ∷ product 9 0 ∷ product 10 0 ∷ []))
-    ∷ row 8 (listIn full cutOfCut) (lists (product 1 2 ∷ product 5 0 ∷ []))
-    ∷ row 9 (listIn full swapped) (lists (product 2 1 ∷ []))
+    ∷ row 6 (listIn fullRange farCuts) (lists (product 1 0 ∷ []))
+    ∷ row 7 (listIn fullRange crossing) (lists (product 5 0 ∷ product 6 0 ∷ product 9 0 ∷ product 10 0 ∷ []))
+    ∷ row 8 (listIn fullRange cutOfCut) (lists (product 1 2 ∷ product 5 0 ∷ []))
+    ∷ row 9 (listIn fullRange swapped) (lists (product 2 1 ∷ []))
     ∷ row 10 (point wedge (at 2 1)) isIn
     ∷ row 10 (point wedge (at 3 1)) isOut
     ∷ row 11 (point drum (at 3 2)) isIn
     ∷ row 11 (point drum (at 5 0)) isIn
     ∷ row 11 (point drum (at 4 2)) isOut
     ∷ row 11 (point drum (at 5 1)) isOut
-    ∷ row 12 (check twoBoxes) (tells (tell (refuse 5 0) sound))
+    ∷ row 12 (check twoBoxes) (refused 5 0)
+    ∷ row 16 (check (deepBox 1048575)) isSound
+    ∷ row 16 (check (deepBox 1048576)) (refused 3 0)
+    ∷ row 16 (check (steepWedge 32767)) isSound
+    ∷ row 16 (check (steepWedge 32768)) (refused 3 0)
     ∷ []
 
 pub cases-hold : map (λ (c : Case). c .says) cases ≡ map (λ (c : Case). c .expected) cases

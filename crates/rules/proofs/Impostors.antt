@@ -10,6 +10,7 @@ use lib.IntN.{ℤ, pos, negsuc}
 use lib.ListN.{length, getD, replicate}
 use Rattle.ground.specs.Bits.{selected, placesWhere}
 use Rattle.ground.specs.Lists.{from, allOf, anyOf, keepIf, countIf, findIf, firstOf}
+use Rattle.rules.specs.declared.Axis.the-variants.{Column}
 use Rattle.rules.specs.declared.Checked.the-variants as checked
 use Rattle.rules.specs.declared.Kind.the-variants.{Box}
 use Rattle.rules.specs.declared.Located.the-variants as located
@@ -22,6 +23,7 @@ use Rattle.rules.specs.declared.Searched.the-variants as searched
 use Rattle.rules.specs.declared.Window.{Window}
 use Rattle.rules.specs.declared.Written.{Written}
 use Rattle.rules.specs.declared.Written.the-variants as written
+use Rattle.rules.specs.Ranges.{columns, codes}
 use Rattle.rules.specs.Table.{primitives}
 use Rattle.rules.specs.Verdict.{tableRefusal}
 use Rattle.rules.specs.Tree as tree
@@ -29,7 +31,7 @@ use Rattle.rules.specs.Tree.{Tree, solid, trees, treeOf}
 use Rattle.rules.specs.Inside.{inside}
 use Rattle.rules.specs.Choices.{choices, inOf, outOf, joined, _crossed-with_}
 use Rattle.rules.specs.Products.{stays, trimmed, firsts, products}
-use Rattle.rules.specs.ListWords.{listOf, productCount}
+use Rattle.rules.specs.ListWords.{raised, listOf, word, productCount}
 use Rattle.rules.specs.ListFaults.{listRefusal}
 use Rattle.rules.specs.ListInside.{insideProduct, insideList}
 use Rattle.rules.specs.Frame.{firstInside, insideCount}
@@ -53,7 +55,7 @@ room = replicate 12 7
 
 -- the first eight words of a list for that window
 abbrev listHeader : ℕ → ℕ → List ℕ
-listHeader products solids = products ∷ 32668 ∷ 32868 ∷ 0 ∷ 65535 ∷ 0 ∷ 65535 ∷ solids ∷ []
+listHeader products solids = products ∷ 32668 ∷ 32868 ∷ 0 ∷ 65535 ∷ 0 ∷ 2097151 ∷ solids ∷ []
 
 abbrev qList : List ℕ
 qList = listHeader 2 4 ++ (9 ∷ 2 ∷ 12 ∷ 0 ∷ [])
@@ -212,6 +214,19 @@ invented-product-count count other h is = other (sym is ∙ ap productCount (lis
 
 pub always-empty : {after : List ℕ} {r : Written} → ListMade q window room after r → productCount after ≡ 0 → ⊥
 always-empty = invented-product-count 0 (λ e. omega arith)
+
+-- ---- one that raises frames as it raises columns: Q has no point in frames -5..-1, and the list says which frames these are
+
+abbrev early : Window
+early = record { xlo = columns .lo; xhi = columns .hi; ylo = codes .lo; yhi = codes .hi; zlo = negsuc 4; zhi = negsuc 0 }
+
+pub right-early : ListMade q early room (0 ∷ 0 ∷ 65535 ∷ 0 ∷ 65535 ∷ 1048571 ∷ 1048575 ∷ 4 ∷ 7 ∷ 7 ∷ 7 ∷ 7 ∷ []) (written.Wrote 8)
+unfolding tableRefusal trees choices _crossed-with_ firsts products zoneList from allOf keepIf countIf findIf firstOf selected placesWhere flatMap
+right-early = record { answer = refl; buffer = refl }
+
+pub frames-as-columns : {after : List ℕ} {r : Written} → ListMade q early room after r → word after 5 ≡ raised Column (early .zlo) → ⊥
+frames-as-columns h is =
+    let e : _≡_ {A = ℕ} 32763 1048571 = sym is ∙ ap (λ (list : List ℕ). word list 5) (list-made-settled h right-early .1) in omega arith
 
 -- ---- one that prunes the first product and copies the others raw: in (A ∪ B) - C, with C far away, both lose their cut
 

@@ -4,13 +4,18 @@ use mathlib.Core.List.{List, [], _∷_, _++_}
 use lib.IntN.{ℤ, pos, negsuc}
 use Rattle.rules.specs.declared.Point.{Point}
 use Rattle.rules.specs.declared.Window.{Window}
+use Rattle.rules.specs.Ranges.{codes, frames}
 
 abbrev pub nought : ℤ
 nought = pos 0
 
--- a box of columns lo..hi; its codes and frames are 0..0
+-- a box of columns lo..hi, codes 0..0 and frames 0..last
+abbrev boxTo : ℤ → ℤ → ℤ → List ℤ
+boxTo last lo hi = nought ∷ lo ∷ hi ∷ nought ∷ nought ∷ nought ∷ last ∷ nought ∷ nought ∷ nought ∷ nought ∷ nought ∷ []
+
+-- its frames are 0..0
 abbrev pub box : ℤ → ℤ → List ℤ
-box lo hi = nought ∷ lo ∷ hi ∷ nought ∷ nought ∷ nought ∷ nought ∷ nought ∷ nought ∷ nought ∷ nought ∷ nought ∷ []
+box lo hi = boxTo nought lo hi
 
 abbrev operation : ℕ → ℕ → ℕ → List ℤ
 operation kind left right = pos kind ∷ pos left ∷ pos right ∷ nought ∷ nought ∷ nought ∷ nought ∷ nought ∷ nought ∷ nought ∷ nought ∷ nought ∷ []
@@ -51,9 +56,13 @@ cutOfCut = nine ++ (nine ++ (nine ++ (diff 1 2 ++ diff 0 3)))
 abbrev pub swapped : List ℤ
 swapped = nine ++ (nine ++ diff 1 0)
 
--- 2x - 3y <= 1 in x, y 0..10
+-- 2x - 3y + cz <= 1 in x, y 0..10
+abbrev wedgeBy : ℤ → List ℤ
+wedgeBy c = pos 1 ∷ nought ∷ pos 10 ∷ nought ∷ pos 10 ∷ nought ∷ nought ∷ pos 2 ∷ negsuc 2 ∷ c ∷ pos 1 ∷ nought ∷ []
+
+-- 2x - 3y <= 1
 abbrev pub wedge : List ℤ
-wedge = pos 1 ∷ nought ∷ pos 10 ∷ nought ∷ pos 10 ∷ nought ∷ nought ∷ pos 2 ∷ negsuc 2 ∷ nought ∷ pos 1 ∷ nought ∷ []
+wedge = wedgeBy nought
 
 -- at 0, 0, radii 5 and 3
 abbrev pub drum : List ℤ
@@ -62,12 +71,16 @@ drum = pos 2 ∷ nought ∷ nought ∷ pos 5 ∷ pos 3 ∷ nought ∷ nought ∷
 abbrev pub twoBoxes : List ℤ
 twoBoxes = nine ++ nine
 
+-- a box whose last frame is given, and a wedge whose slope c is
+abbrev pub deepBox : ℕ → List ℤ
+deepBox last = boxTo (pos last) nought (pos 9)
+
+abbrev pub steepWedge : ℕ → List ℤ
+steepWedge c = wedgeBy (pos c)
+
 -- a window of columns; its codes and frames are full
 abbrev pub columnsOf : ℤ → ℤ → Window
-columnsOf lo hi = record { xlo = lo; xhi = hi; ylo = negsuc 32767; yhi = pos 32767; zlo = negsuc 32767; zhi = pos 32767 }
-
-abbrev pub full : Window
-full = columnsOf (negsuc 32767) (pos 32767)
+columnsOf lo hi = record { xlo = lo; xhi = hi; ylo = codes .lo; yhi = codes .hi; zlo = frames .lo; zhi = frames .hi }
 
 abbrev pub at : ℕ → ℕ → Point
 at x y = record { x = pos x; y = pos y; z = nought }

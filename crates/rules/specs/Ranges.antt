@@ -18,7 +18,7 @@ within s v = leZ (s .lo) v && leZ v (s .hi)
 abbrev pub greatest : Axis → ℕ
 greatest Column = 32767
 greatest Code = 32767
-greatest Frame = 32767
+greatest Frame = 1048575
 
 -- its range has as many values below 0 as from 0 on (`negsuc n` is -(n + 1))
 abbrev pub range : Axis → Span

@@ -12,7 +12,7 @@ pub const GREATEST_COLUMN: i32 = 32767;
 
 pub const GREATEST_CODE: i32 = 32767;
 
-pub const GREATEST_FRAME: i32 = 32767;
+pub const GREATEST_FRAME: i32 = 1048575;
 
 pub const LEAST_COLUMN: i32 = -GREATEST_COLUMN - 1;
 

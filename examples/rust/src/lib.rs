@@ -25,8 +25,8 @@ impl Window {
         xhi: 32767,
         ylo: -32768,
         yhi: 32767,
-        zlo: -32768,
-        zhi: 32767,
+        zlo: -1048576,
+        zhi: 1048575,
     };
 }
 
@@ -289,7 +289,7 @@ mod tests {
     fn lists_q() {
         let mut list = [7; 13];
         assert_eq!(make_list(&q(), Window::FULL, &mut list), Written::Wrote(12));
-        assert_eq!(list, [2, 0, 65535, 0, 65535, 0, 65535, 4, 9, 2, 12, 0, 7]);
+        assert_eq!(list, [2, 0, 65535, 0, 65535, 0, 2097151, 4, 9, 2, 12, 0, 7]);
         assert_eq!(
             make_list(&q(), Window::FULL, &mut list[..11]),
             Written::Refused(refused(8, 12))
