@@ -1,8 +1,10 @@
-use Prim.Native.Nat.{ℕ}
+use Prim.Native.Nat.{ℕ, suc, _*_}
 use lib.IntN.{ℤ, _*ℤ_}
 use mir.Syntax.{w32, w64}
 use mir.Val.{toZ, ofZ}
 use Rattle.ground.proofs.Num.{Num, known, widens, wide, cast-fits, cast-num, mul-fits, mul-num, add-fits, add-num, le-num}
+use Rattle.rules.specs.declared.Axis.the-variants.{Column, Code, Frame}
+use Rattle.rules.specs.Ranges.{greatest}
 use Rattle.laws.proofs.Spans.{even-span}
 use Rattle.solid.proofs.half_space.Statement.{statement}
 use Rattle.solid.proofs.half_space.Tie as tie
@@ -11,7 +13,7 @@ use Rattle.solid.proofs.half_space.Tie as tie
 abbrev product : ℤ → ℤ → ℕ
 product s v = ofZ w64 (toZ w64 (ofZ w64 (toZ w32 (ofZ w32 s))) *ℤ toZ w64 (ofZ w64 (toZ w32 (ofZ w32 v))))
 
--- a frame is further from 0 than a column or a code, a slope is not
+-- each is at most one more than the greatest from 0
 module _ (c : tie.Start) where
   slope-a : Num w32 (ofZ w32 (c .args .a)) (c .args .a) 32768
   slope-a = known (c .fits .a) (even-span 32767 (c .args .a) (c .pre .0 .0))
@@ -22,22 +24,22 @@ module _ (c : tie.Start) where
   slope-c : Num w32 (ofZ w32 (c .args .c)) (c .args .c) 32768
   slope-c = known (c .fits .c) (even-span 32767 (c .args .c) (c .pre .0 .1 .1))
 
-  column : Num w32 (ofZ w32 (c .args .x)) (c .args .x) 32768
-  column = known (c .fits .x) (even-span 32767 (c .args .x) (c .pre .1 .0))
+  column : Num w32 (ofZ w32 (c .args .x)) (c .args .x) (suc (greatest Column))
+  column = known (c .fits .x) (even-span (greatest Column) (c .args .x) (c .pre .1 .0))
 
-  code : Num w32 (ofZ w32 (c .args .y)) (c .args .y) 32768
-  code = known (c .fits .y) (even-span 32767 (c .args .y) (c .pre .1 .1 .0))
+  code : Num w32 (ofZ w32 (c .args .y)) (c .args .y) (suc (greatest Code))
+  code = known (c .fits .y) (even-span (greatest Code) (c .args .y) (c .pre .1 .1 .0))
 
-  frame : Num w32 (ofZ w32 (c .args .z)) (c .args .z) 1048576
-  frame = known (c .fits .z) (even-span 1048575 (c .args .z) (c .pre .1 .1 .1))
+  frame : Num w32 (ofZ w32 (c .args .z)) (c .args .z) (suc (greatest Frame))
+  frame = known (c .fits .z) (even-span (greatest Frame) (c .args .z) (c .pre .1 .1 .1))
 
-  ax : Num w64 (product (c .args .a) (c .args .x)) (c .args .a *ℤ c .args .x) 1073741824
+  ax : Num w64 (product (c .args .a) (c .args .x)) (c .args .a *ℤ c .args .x) (32768 * suc (greatest Column))
   ax = mul-num (cast-num slope-a tt) (cast-num column tt) tt
 
-  by : Num w64 (product (c .args .b) (c .args .y)) (c .args .b *ℤ c .args .y) 1073741824
+  by : Num w64 (product (c .args .b) (c .args .y)) (c .args .b *ℤ c .args .y) (32768 * suc (greatest Code))
   by = mul-num (cast-num slope-b tt) (cast-num code tt) tt
 
-  cz : Num w64 (product (c .args .c) (c .args .z)) (c .args .c *ℤ c .args .z) 34359738368
+  cz : Num w64 (product (c .args .c) (c .args .z)) (c .args .c *ℤ c .args .z) (32768 * suc (greatest Frame))
   cz = mul-num (cast-num slope-c tt) (cast-num frame tt) tt
 
 mul-result : tie.Need-mul-result
