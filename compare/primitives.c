@@ -16,7 +16,8 @@ static int64_t any_mark_value(int axis, unsigned style, int64_t base)
     switch (style) {
     case 0: return between(-4, 4);
     case 1: return base + between(-20, 20);
-    case 2: return ONE_OF(least, least + 1, LEAST_COLUMN - 1, -1, 0, 1, GREATEST_COLUMN + 1, greatest - 1, greatest);
+    case 2: /* where columns end, too: frames go on there */
+        return ONE_OF(least, least + 1, LEAST_COLUMN - 1, -1, 0, 1, GREATEST_COLUMN + 1, greatest - 1, greatest);
     case 3: return any_coordinate(axis);
     default:
         return one_in(2) ? between(-3, 9) : ONE_OF(least, greatest, -GREATEST_RADIUS - 1, -GREATEST_RADIUS, GREATEST_RADIUS,

@@ -204,8 +204,8 @@ static const struct zone zones[] = {
          "The whole range, less the part of a box in its lowest corner that a wedge leaves, and less a drum at its highest columns "
          "and codes."),
     ZONE("A-B", steep,
-         "A wedge as steep over the frames as can be, less a box: its plane passes where a frame number takes 17 bits and its "
-         "product 32."),
+         "A wedge as steep over the frames as can be, less a box: its plane passes through frames 65538 and 65539, where a slope "
+         "times a frame leaves 32 bits."),
 };
 
 /* Walks. */

@@ -18,7 +18,7 @@ use Rattle.rules.specs.Products.{firsts, products}
 use Rattle.rules.specs.Refusals.{refuse}
 use Rattle.rules.specs.Told.{Told, fine, sound, inside as is-inside, outside, tell}
 use Rattle.rules.specs.TreeCalls.{treePointRefusal, pointTale}
-use Rattle.rules.proofs.Zones.{q, qApart, farCuts, crossing, cutOfCut, swapped, wedge, drum, twoBoxes, deepBox, steepWedge, columnsOf, at}
+use Rattle.rules.proofs.Zones.{q, qApart, farCuts, crossing, cutOfCut, swapped, wedge, drum, twoBoxes, deepBox, columnsOf, at}
 
 -- what the definitions say of a zone
 pub data Says : Type 0 where
@@ -78,8 +78,8 @@ cases =
     ∷ row 7 (listIn fullRange crossing) (lists (product 5 0 ∷ product 6 0 ∷ product 9 0 ∷ product 10 0 ∷ []))
     ∷ row 8 (listIn fullRange cutOfCut) (lists (product 1 2 ∷ product 5 0 ∷ []))
     ∷ row 9 (listIn fullRange swapped) (lists (product 2 1 ∷ []))
-    ∷ row 10 (point wedge (at 2 1)) isIn
-    ∷ row 10 (point wedge (at 3 1)) isOut
+    ∷ row 10 (point (wedge 0) (at 2 1)) isIn
+    ∷ row 10 (point (wedge 0) (at 3 1)) isOut
     ∷ row 11 (point drum (at 3 2)) isIn
     ∷ row 11 (point drum (at 5 0)) isIn
     ∷ row 11 (point drum (at 4 2)) isOut
@@ -87,8 +87,8 @@ cases =
     ∷ row 12 (check twoBoxes) (refused 5 0)
     ∷ row 16 (check (deepBox 1048575)) isSound
     ∷ row 16 (check (deepBox 1048576)) (refused 3 0)
-    ∷ row 16 (check (steepWedge 32767)) isSound
-    ∷ row 16 (check (steepWedge 32768)) (refused 3 0)
+    ∷ row 16 (check (wedge 32767)) isSound
+    ∷ row 16 (check (wedge 32768)) (refused 3 0)
     ∷ []
 
 pub cases-hold : map (λ (c : Case). c .says) cases ≡ map (λ (c : Case). c .expected) cases

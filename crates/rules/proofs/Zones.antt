@@ -56,13 +56,9 @@ cutOfCut = nine ++ (nine ++ (nine ++ (diff 1 2 ++ diff 0 3)))
 abbrev pub swapped : List ℤ
 swapped = nine ++ (nine ++ diff 1 0)
 
--- 2x - 3y + cz <= 1 in x, y 0..10
-abbrev wedgeBy : ℤ → List ℤ
-wedgeBy c = pos 1 ∷ nought ∷ pos 10 ∷ nought ∷ pos 10 ∷ nought ∷ nought ∷ pos 2 ∷ negsuc 2 ∷ c ∷ pos 1 ∷ nought ∷ []
-
--- 2x - 3y <= 1
-abbrev pub wedge : List ℤ
-wedge = wedgeBy nought
+-- 2x - 3y + cz <= 1 in x, y 0..10 and frame 0
+abbrev pub wedge : ℕ → List ℤ
+wedge c = pos 1 ∷ nought ∷ pos 10 ∷ nought ∷ pos 10 ∷ nought ∷ nought ∷ pos 2 ∷ negsuc 2 ∷ pos c ∷ pos 1 ∷ nought ∷ []
 
 -- at 0, 0, radii 5 and 3
 abbrev pub drum : List ℤ
@@ -71,12 +67,9 @@ drum = pos 2 ∷ nought ∷ nought ∷ pos 5 ∷ pos 3 ∷ nought ∷ nought ∷
 abbrev pub twoBoxes : List ℤ
 twoBoxes = nine ++ nine
 
--- a box whose last frame is given, and a wedge whose slope c is
+-- frames 0..last
 abbrev pub deepBox : ℕ → List ℤ
 deepBox last = boxTo (pos last) nought (pos 9)
-
-abbrev pub steepWedge : ℕ → List ℤ
-steepWedge c = wedgeBy (pos c)
 
 -- a window of columns; its codes and frames are full
 abbrev pub columnsOf : ℤ → ℤ → Window
