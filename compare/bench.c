@@ -17,12 +17,15 @@ struct result {
     uint64_t list[LAMPHOLLY_LIST_WORDS];
     int32_t table[LAMPHOLLY_TABLE_WORDS];
     uint8_t text[LAMPHOLLY_TEXT_BYTES];
+    uint32_t triples[LAMPHOLLY_TRIPLE_WORDS];
 };
 
 typedef struct lampholly_answer make_call(const int32_t *, size_t, struct lampholly_window, uint64_t *, size_t);
 typedef struct lampholly_answer tree_call(const int32_t *, size_t, const int16_t *, size_t, int32_t, int32_t);
 typedef struct lampholly_answer list_call(const int32_t *, size_t, const uint64_t *, size_t,
                                           const int16_t *, size_t, int32_t, int32_t);
+typedef struct lampholly_answer screen_call(const int32_t *, size_t, const uint64_t *, size_t,
+                                            const int16_t *, size_t, size_t, int32_t, int32_t, uint32_t *, size_t);
 typedef struct lampholly_answer read_call(const uint8_t *, size_t, int32_t *, size_t);
 typedef struct lampholly_answer write_call(const int32_t *, size_t, uint8_t *, size_t);
 
@@ -32,6 +35,7 @@ struct rival {
     make_call *make;
     tree_call *tree;
     list_call *list;
+    screen_call *screen;
     read_call *read;
     write_call *write;
 };
@@ -42,6 +46,21 @@ struct work {
     int manner;
     const struct rival *rivals;
 };
+
+/* A screenful as one searches it without a call for it. */
+static struct lampholly_answer call_a_frame(const int32_t *table, size_t words, const uint64_t *list, size_t list_words,
+                                            const int16_t *codes, size_t samples, size_t frames,
+                                            int32_t first, int32_t frame, uint32_t *triples, size_t room)
+{
+    size_t length = samples / frames;
+    (void)room;
+    for (size_t j = 0; j < frames; j++) {
+        int32_t number = frame + (int32_t)j;
+        put_triple(triples + TRIPLE_WORDS * j,
+                   lampholly_list_search(table, words, list, list_words, codes + j * length, length, first, number));
+    }
+    return peer_done(TRIPLE_WORDS * frames);
+}
 
 static const struct rival makers[MOST_RIVALS] = {
     {.name = "ours", .make = lampholly_make_list},
@@ -56,6 +75,11 @@ static const struct rival list_searchers[MOST_RIVALS] = {
     {.name = "ours", .list = lampholly_list_search},
     {.name = "product by product", .list = peer_list_search},
     {.name = "mask of primitives", .list = peer_mask_search},
+};
+static const struct rival screen_searchers[MOST_RIVALS] = {
+    {.name = "ours", .screen = lampholly_list_search_frames},
+    {.name = "a call a frame", .screen = call_a_frame},
+    {.name = "mask of primitives", .screen = peer_mask_screen},
 };
 static const struct rival readers[MOST_RIVALS] = {
     {.name = "ours", .read = lampholly_read_text},
@@ -90,6 +114,10 @@ static const struct work works[] = {
     {"list, 100 products: frame mostly inside", build_frame, MANY | INSIDE, list_searchers},
     {"list, 100 products: frame toggling", build_frame, MANY | TOGGLING, list_searchers},
     {"list, 3 products: 500 frames", build_screen, FEW | CLEAR, list_searchers},
+    {"screen, 3 products: 500 frames of 1,000", build_wide_screen, FEW | CLEAR, screen_searchers},
+    {"screen, 3 products: 500 frames of 10", build_narrow_screen, FEW | CLEAR, screen_searchers},
+    {"screen, 100 products: 500 frames of 1,000", build_wide_screen, MANY | CLEAR, screen_searchers},
+    {"screen, 100 products: 500 frames of 10", build_narrow_screen, MANY | CLEAR, screen_searchers},
     {"text: reading 127 rows", build_text, 0, readers},
     {"text: writing 127 rows", build_text, 0, writers},
 };
@@ -119,6 +147,13 @@ static void search_frames(const struct rival *rival, const struct load *load, st
     }
 }
 
+static void search_screen(const struct rival *rival, const struct load *load, struct result *result)
+{
+    const struct table *t = &load->zone[0];
+    add(result, rival->screen(t->word, t->words, load->list, load->list_words, load->code, load->frames * load->samples,
+                              load->frames, load->first, 1 - (int32_t)load->frames, result->triples, LAMPHOLLY_TRIPLE_WORDS));
+}
+
 static void run(const struct rival *rival, const struct load *load, struct result *result)
 {
     const struct table *t = &load->zone[0];
@@ -129,6 +164,8 @@ static void run(const struct rival *rival, const struct load *load, struct resul
         add(result, rival->read(load->text.byte, load->text.bytes, result->table, LAMPHOLLY_TABLE_WORDS));
     else if (rival->write != NULL)
         add(result, rival->write(t->word, t->words, result->text, LAMPHOLLY_TEXT_BYTES));
+    else if (rival->screen != NULL)
+        search_screen(rival, load, result);
     else
         search_frames(rival, load, result);
 }

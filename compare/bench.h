@@ -6,10 +6,10 @@
 #include "peers.h"
 
 #define MOST_ZONES 16
-#define MOST_FRAMES 500
 #define SCREEN_COLUMNS 1024
 
-/* What one measured piece of work is given. Every frame has the same number of samples; frame k has the number -k. */
+/* What one measured piece of work is given. Every frame has the same number of samples. Frame k has the number -k where each is
+   searched by a call of its own; where one call searches them all, the last has the number 0. */
 struct load {
     size_t zones;
     struct table zone[MOST_ZONES];
@@ -40,6 +40,6 @@ int32_t add_operation(struct table *table, int32_t operation, int32_t left, int3
 /* bench_frames.c: frames to search, and texts. */
 enum { FEW, MANY };
 enum { CLEAR = 0, INSIDE = 2, TOGGLING = 4 };
-build build_frame, build_screen, build_text;
+build build_frame, build_screen, build_wide_screen, build_narrow_screen, build_text;
 
 #endif

@@ -92,13 +92,28 @@ void build_frame(struct load *load, int manner, int is_half)
 }
 
 /* A screenful of frames; for the half, half as many. */
-void build_screen(struct load *load, int manner, int is_half)
+static void put_screen(struct load *load, int manner, int is_half, int32_t columns)
 {
     put_zone(load, manner & 1);
     load->frames = is_half ? MOST_FRAMES / 2 : MOST_FRAMES;
-    load->samples = SCREEN_COLUMNS;
-    load->first = -SCREEN_COLUMNS / 2;
+    load->samples = (size_t)columns;
+    load->first = -columns / 2;
     put_codes(load, manner & ~1);
+}
+
+void build_screen(struct load *load, int manner, int is_half)
+{
+    put_screen(load, manner, is_half, SCREEN_COLUMNS);
+}
+
+void build_wide_screen(struct load *load, int manner, int is_half)
+{
+    put_screen(load, manner, is_half, 1000);
+}
+
+void build_narrow_screen(struct load *load, int manner, int is_half)
+{
+    put_screen(load, manner, is_half, 10);
 }
 
 /* A zone of 127 rows and its text; for the half, of 63 rows. */

@@ -1,10 +1,10 @@
-/* The differential test: plain against the library over all eight calls. Use: differ SEED COUNT [FIRST CASE] */
+/* The differential test: plain against the library over all nine calls. Use: differ SEED COUNT [FIRST CASE] */
 #include <stdio.h>
 #include <stdlib.h>
 
 #include "differ.h"
 
-/* From so many cases on, every answer and refusal of every call must have been seen. */
+/* From so many cases on, every answer and refusal of every call, and all that a triple can tell, must have been seen. */
 #define MANY_CASES 5000
 
 static const struct lampholly_window full = {FULL_RANGE};
@@ -13,6 +13,7 @@ static const struct lampholly_window full = {FULL_RANGE};
 static struct table zone, lent_zone, other_zone;
 static struct list list;
 static struct frame frame;
+static struct screen screen;
 static struct text text;
 
 static void ask_tree(void)
@@ -85,6 +86,21 @@ static void ask_list(struct lampholly_window window)
     }
 }
 
+/* By the list that the case has; a long one takes its time with each sample, and with each frame alone. */
+static void ask_screens(void)
+{
+    struct question search = {.call = LIST_SEARCH_FRAMES, .list = &list, .screen = &screen};
+    search.table = one_in(3) ? &lent_zone : &zone;
+    for (int turn = 0; turn < 2; turn++) {
+        do
+            any_screen(&screen, &zone, window_of(&list));
+        while (screen.samples + screen.frames > 100 && list.words > 2000);
+        size_t frames = screen.frames <= MOST_FRAMES + 1 ? screen.frames : 1; /* for a huge number any room will do */
+        search.room = any_room(TRIPLE_WORDS * frames, TRIPLES_ROOM);
+        ask(search);
+    }
+}
+
 static void ask_write_text(void)
 {
     struct plain_answer written = plain_write_text(lent_zone.word, lent_zone.words, text.byte, TEXT_ROOM);
@@ -110,11 +126,15 @@ static void ask_long(void)
 {
     struct question tree = {.call = TREE_SEARCH, .table = &zone, .frame = &frame};
     struct question by_list = {.call = LIST_SEARCH, .table = &zone, .list = &list, .frame = &frame};
+    struct question twice = {.call = LIST_SEARCH_FRAMES, .table = &zone, .list = &list, .screen = &screen};
     any_long_zone(&zone);
     level_frame(&frame, &zone);
+    repeat_frame(&screen, &frame);
     make_list(&zone, full);
+    twice.room = TRIPLE_WORDS * screen.frames;
     ask(tree);
     ask(by_list);
+    ask(twice);
 }
 
 static void run_case(uint64_t number)
@@ -130,6 +150,7 @@ static void run_case(uint64_t number)
     ask_tree();
     ask_make_list(window);
     ask_list(window);
+    ask_screens();
     ask_write_text();
     ask_read_text();
 }

@@ -17,7 +17,9 @@ void *lend(struct lent *lent, const void *content, size_t bytes);
 int holds(const struct lent *lent, const void *content);
 
 /* calls.c: one call, asked of both. */
-enum call { CHECK, TREE_POINT, TREE_SEARCH, MAKE_LIST, LIST_POINT, LIST_SEARCH, READ_TEXT, WRITE_TEXT, CALLS };
+enum call {
+    CHECK, TREE_POINT, TREE_SEARCH, MAKE_LIST, LIST_POINT, LIST_SEARCH, READ_TEXT, WRITE_TEXT, LIST_SEARCH_FRAMES, CALLS
+};
 
 /* What a call takes; the parts that it does not take are left 0. */
 struct question {
@@ -25,6 +27,7 @@ struct question {
     const struct table *table;
     const struct list *list;
     const struct frame *frame;
+    const struct screen *screen;
     const struct text *text;
     struct lampholly_window window;
     struct point point;
@@ -41,6 +44,7 @@ void show_question(const struct question *question);
 /* tally.c: what was seen. */
 extern const char *const call_name[CALLS];
 void tally(enum call call, struct plain_answer answer);
+void tally_triple(const uint32_t *triple);
 void print_tally(uint64_t seed, uint64_t cases);
 int is_all_seen(void);
 

@@ -16,12 +16,12 @@ static size_t any_length(void)
 }
 
 /* A code for each sample, in one of several manners; the holder keeps it to 16 bits. */
-static void put_codes(struct frame *frame, const struct table *table)
+static void put_codes(int16_t *code, size_t samples, const struct table *table)
 {
     unsigned manner = (unsigned)below(6);
     int64_t one = any_aim(table, Y), other = any_aim(table, Y), at = one;
     int64_t step = between(-3, 3);
-    for (size_t k = 0; k < frame->samples; k++) {
+    for (size_t k = 0; k < samples; k++) {
         switch (manner) {
         case 0: at = one_in(20) ? other : one; break;
         case 1: at += step; break;
@@ -30,27 +30,37 @@ static void put_codes(struct frame *frame, const struct table *table)
         case 4: at = k < 4096 ? any_aim(table, Y) : at + between(-2, 2); break;
         default: at = one + between(-1, 1); break;
         }
-        frame->code[k] = (int16_t)in_range(Y, at);
+        code[k] = (int16_t)in_range(Y, at);
     }
 }
 
-static void keep_codes(struct frame *frame, struct lampholly_window window)
+static void keep_codes(int16_t *code, size_t samples, struct lampholly_window window)
 {
-    for (size_t k = 0; k < frame->samples; k++)
-        frame->code[k] = (int16_t)clamped(frame->code[k], window.ylo, window.yhi);
+    for (size_t k = 0; k < samples; k++)
+        code[k] = (int16_t)clamped(code[k], window.ylo, window.yhi);
 }
 
 /* One sample leaves the window by its code: the first, the last, or one between. */
-static void breach(struct frame *frame, struct lampholly_window window)
+static void breach(int16_t *code, size_t samples, struct lampholly_window window)
 {
-    size_t last = frame->samples - 1;
+    size_t last = samples - 1;
     size_t at = (size_t)ONE_OF(0, (int64_t)last, (int64_t)last / 2, (int64_t)below(last + 1));
-    int64_t code = one_in(2) ? (int64_t)window.ylo - 1 : (int64_t)window.yhi + 1;
-    frame->code[at] = (int16_t)in_range(Y, code);
+    int64_t out = one_in(2) ? (int64_t)window.ylo - 1 : (int64_t)window.yhi + 1;
+    code[at] = (int16_t)in_range(Y, out);
+}
+
+/* The codes of a frame, mostly within the window. */
+void any_codes(int16_t *code, size_t samples, const struct table *table, struct lampholly_window window)
+{
+    put_codes(code, samples, table);
+    if (!one_in(8))
+        keep_codes(code, samples, window);
+    if (samples > 0 && one_in(5))
+        breach(code, samples, window);
 }
 
 /* The frame lies about the aim, then as a whole within the window if it can. */
-static int64_t any_first(size_t samples, const struct table *table, struct lampholly_window window)
+int64_t any_first(size_t samples, const struct table *table, struct lampholly_window window)
 {
     int64_t length = (int64_t)samples;
     int64_t first = any_aim(table, X) - (length > 0 ? (int64_t)below(samples) : 0);
@@ -67,7 +77,7 @@ static int64_t any_first(size_t samples, const struct table *table, struct lamph
     return clamped(first, INT32_MIN, INT32_MAX);
 }
 
-static int64_t any_number(const struct table *table, struct lampholly_window window)
+int64_t any_number(const struct table *table, struct lampholly_window window)
 {
     int64_t number = any_aim(table, Z);
     if (!one_in(6))
@@ -82,11 +92,7 @@ void any_frame(struct frame *frame, const struct table *table, struct lampholly_
     frame->samples = any_length();
     frame->first = (int32_t)any_first(frame->samples, table, window);
     frame->number = (int32_t)any_number(table, window);
-    put_codes(frame, table);
-    if (!one_in(8))
-        keep_codes(frame, window);
-    if (frame->samples > 0 && one_in(5))
-        breach(frame, window);
+    any_codes(frame->code, frame->samples, table, window);
 }
 
 /* One code in all columns, or in all but the last, at the middle of the zone's first box. */

@@ -1,4 +1,4 @@
-/* What is lent to the calls, at random: zones, lists, windows, points, frames and texts, sound or damaged. */
+/* What is lent to the calls, at random: zones, lists, windows, points, frames, screens and texts, sound or damaged. */
 #ifndef INPUTS_H
 #define INPUTS_H
 
@@ -12,6 +12,8 @@
 #define TABLE_ROOM (ROW_WORDS * 260)
 #define LIST_ROOM (HEADER_WORDS + PRODUCT_WORDS * (MOST_PRODUCTS + 4))
 #define FRAME_ROOM (MOST_SAMPLES + 1)
+#define SCREEN_ROOM (2 * FRAME_ROOM + MOST_FRAMES) /* two frames that are too long, and what is left over of a division */
+#define TRIPLES_ROOM (TRIPLE_WORDS * (MOST_FRAMES + 20))
 #define TEXT_ROOM 20000
 
 struct table {
@@ -28,6 +30,13 @@ struct frame {
     size_t samples;
     int32_t first, number;
     int16_t code[FRAME_ROOM];
+};
+
+/* The frames lie end to end. */
+struct screen {
+    size_t samples, frames;
+    int32_t first, number;
+    int16_t code[SCREEN_ROOM];
 };
 
 struct text {
@@ -71,13 +80,18 @@ struct box box_of(const int32_t *row);
 void damage_table(struct table *table);
 void damage_list(struct list *list);
 
-/* aims.c, frames.c: windows, points, rooms and frames near the zone's edges. */
+/* aims.c, frames.c, screens.c: windows, points, rooms, frames and screens near the zone's edges. */
 struct lampholly_window any_window(const struct table *table);
 struct lampholly_window window_of(const struct list *list);
 struct point any_point(const struct table *table, struct lampholly_window window);
 int64_t any_aim(const struct table *table, int axis);
+int64_t any_first(size_t samples, const struct table *table, struct lampholly_window window);
+int64_t any_number(const struct table *table, struct lampholly_window window);
+void any_codes(int16_t *code, size_t samples, const struct table *table, struct lampholly_window window);
 void any_frame(struct frame *frame, const struct table *table, struct lampholly_window window);
 void level_frame(struct frame *frame, const struct table *table);
+void any_screen(struct screen *screen, const struct table *table, struct lampholly_window window);
+void repeat_frame(struct screen *screen, const struct frame *frame);
 size_t any_room(size_t needed, size_t most);
 
 /* texts.c: zone text of any table, and damaged text. */

@@ -111,21 +111,24 @@ static struct lampholly_answer check_window(const uint64_t *list, const int16_t 
     return peer_done(0);
 }
 
-/* Table, 9, 11, 12, 10. */
-static struct lampholly_answer check_all(const int32_t *table, size_t words, const uint64_t *list, size_t list_words,
-                                         const int16_t *codes, size_t samples, int32_t first, int32_t frame,
-                                         struct peer_zone *zone)
+/* Table, 9, 11. */
+static struct lampholly_answer open_with_list(const int32_t *table, size_t words, const uint64_t *list, size_t list_words,
+                                              struct peer_zone *zone)
 {
     struct lampholly_answer check = peer_open(table, words, zone);
     if (!check.refusal)
         check = check_list(list, list_words);
     if (!check.refusal && list[LIST_PRIMITIVES] != (uint64_t)zone->primitives)
         check = peer_refused(11, (uint64_t)zone->primitives);
-    if (!check.refusal)
-        check = check_frame(samples, first, frame);
-    if (!check.refusal)
-        check = check_window(list, codes, samples, first, frame);
     return check;
+}
+
+/* 12, 10. */
+static struct lampholly_answer check_samples(const uint64_t *list, const int16_t *codes, size_t samples,
+                                             int32_t first, int32_t frame)
+{
+    struct lampholly_answer check = check_frame(samples, first, frame);
+    return check.refusal ? check : check_window(list, codes, samples, first, frame);
 }
 
 static int in_product(const struct peer_zone *zone, const uint64_t *product, int64_t x, int64_t y, int64_t z)
@@ -164,7 +167,9 @@ struct lampholly_answer peer_list_search(const int32_t *table, size_t words, con
                                          const int16_t *codes, size_t samples, int32_t first, int32_t frame)
 {
     struct peer_zone zone;
-    struct lampholly_answer check = check_all(table, words, list, list_words, codes, samples, first, frame, &zone);
+    struct lampholly_answer check = open_with_list(table, words, list, list_words, &zone);
+    if (!check.refusal)
+        check = check_samples(list, codes, samples, first, frame);
     if (check.refusal)
         return check;
     uint64_t position = 0, inside = 0;
@@ -177,19 +182,47 @@ struct lampholly_answer peer_list_search(const int32_t *table, size_t words, con
     return found(position, inside);
 }
 
-struct lampholly_answer peer_mask_search(const int32_t *table, size_t words, const uint64_t *list, size_t list_words,
-                                         const int16_t *codes, size_t samples, int32_t first, int32_t frame)
+static struct lampholly_answer mask_search(const struct peer_zone *zone, const uint64_t *list,
+                                           const int16_t *codes, size_t samples, int32_t first, int32_t frame)
 {
-    struct peer_zone zone;
-    struct lampholly_answer check = check_all(table, words, list, list_words, codes, samples, first, frame, &zone);
+    struct lampholly_answer check = check_samples(list, codes, samples, first, frame);
     if (check.refusal)
         return check;
     uint64_t position = 0, inside = 0;
     for (size_t k = 0; k < samples; k++) {
-        if (in_list_by_mask(&zone, list, first + (int64_t)k, codes[k], frame)) {
+        if (in_list_by_mask(zone, list, first + (int64_t)k, codes[k], frame)) {
             position = inside == 0 ? k : position;
             inside++;
         }
     }
     return found(position, inside);
+}
+
+struct lampholly_answer peer_mask_search(const int32_t *table, size_t words, const uint64_t *list, size_t list_words,
+                                         const int16_t *codes, size_t samples, int32_t first, int32_t frame)
+{
+    struct peer_zone zone;
+    struct lampholly_answer check = open_with_list(table, words, list, list_words, &zone);
+    return check.refusal ? check : mask_search(&zone, list, codes, samples, first, frame);
+}
+
+/* The zone is opened once, for all frames. */
+struct lampholly_answer peer_mask_screen(const int32_t *table, size_t words, const uint64_t *list, size_t list_words,
+                                         const int16_t *codes, size_t samples, size_t frames,
+                                         int32_t first, int32_t frame, uint32_t *triples, size_t room)
+{
+    struct peer_zone zone;
+    struct lampholly_answer check = open_with_list(table, words, list, list_words, &zone);
+    if (!check.refusal && (frames == 0 || frames > MOST_FRAMES || samples % frames != 0))
+        check = peer_refused(12, 0);
+    if (!check.refusal && room < TRIPLE_WORDS * frames)
+        check = peer_refused(8, TRIPLE_WORDS * frames);
+    if (check.refusal)
+        return check;
+    size_t length = samples / frames;
+    for (size_t j = 0; j < frames; j++) {
+        int32_t number = frame < INT32_MAX - (int32_t)j ? frame + (int32_t)j : INT32_MAX; /* which is out of range, too */
+        put_triple(triples + TRIPLE_WORDS * j, mask_search(&zone, list, codes + j * length, length, first, number));
+    }
+    return peer_done(TRIPLE_WORDS * frames);
 }

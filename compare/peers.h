@@ -50,6 +50,14 @@ static inline struct product without_far_cuts(const struct peer_zone *zone, stru
     return product;
 }
 
+static inline void put_triple(uint32_t *triple, struct lampholly_answer answer)
+{
+    uint64_t found = answer.count == 0 ? TOLD_CLEAR : TOLD_HIT;
+    triple[TRIPLE_TOLD] = (uint32_t)(answer.refusal ? TOLD_REFUSED + answer.refusal : found);
+    triple[TRIPLE_VALUE] = (uint32_t)answer.value;
+    triple[TRIPLE_COUNT] = (uint32_t)answer.count;
+}
+
 /* peer_table.c */
 struct lampholly_answer peer_done(uint64_t written);
 struct lampholly_answer peer_refused(uint64_t number, uint64_t value);
@@ -68,13 +76,17 @@ struct lampholly_answer peer_prepare(const int32_t *table, size_t words, struct 
 struct lampholly_answer peer_finish(const struct peer_zone *zone, struct lampholly_window window,
                                     struct product *products, size_t count, uint64_t *list, size_t room);
 
-/* peer_search.c: every sample evaluated on its own, in the tree, product by product, or by a mask of primitives. */
+/* peer_search.c: every sample evaluated on its own, in the tree, product by product, or by a mask of primitives; by that, a
+   screenful too. */
 struct lampholly_answer peer_tree_search(const int32_t *table, size_t words,
                                          const int16_t *codes, size_t samples, int32_t first, int32_t frame);
 struct lampholly_answer peer_list_search(const int32_t *table, size_t words, const uint64_t *list, size_t list_words,
                                          const int16_t *codes, size_t samples, int32_t first, int32_t frame);
 struct lampholly_answer peer_mask_search(const int32_t *table, size_t words, const uint64_t *list, size_t list_words,
                                          const int16_t *codes, size_t samples, int32_t first, int32_t frame);
+struct lampholly_answer peer_mask_screen(const int32_t *table, size_t words, const uint64_t *list, size_t list_words,
+                                         const int16_t *codes, size_t samples, size_t frames,
+                                         int32_t first, int32_t frame, uint32_t *triples, size_t room);
 
 /* peer_text.c */
 struct lampholly_answer peer_read_text(const uint8_t *text, size_t bytes, int32_t *table, size_t room);

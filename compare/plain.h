@@ -35,6 +35,11 @@ struct plain_answer plain_list_point(const int32_t *table, size_t words, const u
 struct plain_answer plain_list_search(const int32_t *table, size_t words, const uint64_t *list, size_t list_words,
                                       const int16_t *codes, size_t samples, int32_t first, int32_t frame);
 
+/* The frames, all of one length, lie end to end in codes; each has three words in triples. */
+struct plain_answer plain_list_search_frames(const int32_t *table, size_t words, const uint64_t *list, size_t list_words,
+                                             const int16_t *codes, size_t samples, size_t frames,
+                                             int32_t first, int32_t frame, uint32_t *triples, size_t room);
+
 struct plain_answer plain_read_text(const uint8_t *text, size_t bytes, int32_t *table, size_t room);
 
 struct plain_answer plain_write_text(const int32_t *table, size_t words, uint8_t *text, size_t room);

@@ -1,4 +1,4 @@
-/* Answers from a list: a point, and the search of a frame; refusals 9 to 11. */
+/* Answers from a list: a point, and the search of a frame and of a screen; refusals 9 to 11. */
 #include "plain_parts.h"
 
 /* The bits at or past this number of primitives. */
@@ -47,7 +47,7 @@ static struct plain_answer check_list(const uint64_t *list, size_t words)
     return check_products(list);
 }
 
-/* Table, 9, 11: what a point and a frame share. */
+/* Table, 9, 11: what a point, a frame and a screen share. */
 static struct plain_answer check_table_and_list(const int32_t *table, size_t words,
                                                 const uint64_t *list, size_t list_words)
 {
@@ -112,26 +112,63 @@ struct plain_answer plain_list_point(const int32_t *table, size_t words, const u
     return plain_inside(in_list(&zone, list, point));
 }
 
-struct plain_answer plain_list_search(const int32_t *table, size_t words, const uint64_t *list, size_t list_words,
-                                      const int16_t *codes, size_t samples, int32_t first, int32_t frame)
+/* A frame, after the checks of table and list: 12, 10, then clear or hit. */
+static struct plain_answer search_frame(const struct zone *zone, const uint64_t *list,
+                                        const int16_t *codes, size_t samples, int32_t first, int64_t frame)
 {
-    struct plain_answer check = check_table_and_list(table, words, list, list_words);
-    if (plain_is_refused(check))
-        return check;
-    check = plain_check_frame(samples, first, frame);
+    struct plain_answer check = plain_check_frame(samples, first, frame);
     if (plain_is_refused(check))
         return check;
     for (size_t k = 0; k < samples; k++)
         if (first_bad_axis(list, plain_sample(codes, k, first, frame)) < AXES)
             return plain_refused(10, k);
-    struct zone zone = plain_zone(table, words);
     uint64_t first_inside = 0, inside_samples = 0;
     for (size_t k = 0; k < samples; k++) {
-        if (in_list(&zone, list, plain_sample(codes, k, first, frame))) {
+        if (in_list(zone, list, plain_sample(codes, k, first, frame))) {
             if (inside_samples == 0)
                 first_inside = k;
             inside_samples++;
         }
     }
     return plain_found(first_inside, inside_samples);
+}
+
+struct plain_answer plain_list_search(const int32_t *table, size_t words, const uint64_t *list, size_t list_words,
+                                      const int16_t *codes, size_t samples, int32_t first, int32_t frame)
+{
+    struct plain_answer check = check_table_and_list(table, words, list, list_words);
+    if (plain_is_refused(check))
+        return check;
+    struct zone zone = plain_zone(table, words);
+    return search_frame(&zone, list, codes, samples, first, frame);
+}
+
+static void put_triple(uint32_t *triple, struct plain_answer answer)
+{
+    uint64_t found = answer.count == 0 ? TOLD_CLEAR : TOLD_HIT;
+    triple[TRIPLE_TOLD] = (uint32_t)(plain_is_refused(answer) ? TOLD_REFUSED + answer.refusal : found);
+    triple[TRIPLE_VALUE] = (uint32_t)answer.value;
+    triple[TRIPLE_COUNT] = (uint32_t)answer.count;
+}
+
+/* A frame's number has 64 bits here: it may leave the 32 of the first one's. */
+struct plain_answer plain_list_search_frames(const int32_t *table, size_t words, const uint64_t *list, size_t list_words,
+                                             const int16_t *codes, size_t samples, size_t frames,
+                                             int32_t first, int32_t frame, uint32_t *triples, size_t room)
+{
+    struct plain_answer check = check_table_and_list(table, words, list, list_words);
+    if (plain_is_refused(check))
+        return check;
+    if (frames == 0 || frames > MOST_FRAMES || samples % frames != 0)
+        return plain_refused(12, 0);
+    if (room < TRIPLE_WORDS * frames)
+        return plain_refused(8, TRIPLE_WORDS * frames);
+    struct zone zone = plain_zone(table, words);
+    size_t length = samples / frames;
+    for (size_t j = 0; j < frames; j++) {
+        int64_t number = (int64_t)frame + (int64_t)j;
+        struct plain_answer answer = search_frame(&zone, list, codes + length * j, length, first, number);
+        put_triple(triples + TRIPLE_WORDS * j, answer);
+    }
+    return plain_done(TRIPLE_WORDS * frames);
 }

@@ -26,7 +26,7 @@ struct zone plain_zone(const int32_t *table, size_t words);
 
 /* plain_tree.c */
 int plain_in_primitive(const int32_t *row, struct point point);
-struct plain_answer plain_check_frame(size_t samples, int32_t first, int32_t frame);
-struct point plain_sample(const int16_t *codes, size_t position, int32_t first, int32_t frame);
+struct plain_answer plain_check_frame(size_t samples, int32_t first, int64_t frame);
+struct point plain_sample(const int16_t *codes, size_t position, int32_t first, int64_t frame);
 
 #endif

@@ -16,7 +16,7 @@ static int in_box(const int32_t *row, struct point p)
     return in_bounds(row, X, p) && in_bounds(row, Y, p) && in_bounds(row, Z, p);
 }
 
-/* Each product of a slope and a coordinate is at most 2^30. */
+/* A product of a slope and a coordinate is at most 2^35. */
 static int in_wedge(const int32_t *row, struct point p)
 {
     int64_t a = row[SLOPE + X], b = row[SLOPE + Y], c = row[SLOPE + Z], d = row[LIMIT];
@@ -64,7 +64,7 @@ struct plain_answer plain_tree_point(const int32_t *table, size_t words, int32_t
     return plain_inside(in_tree(&zone, zone.rows - 1, point));
 }
 
-struct plain_answer plain_check_frame(size_t samples, int32_t first, int32_t frame)
+struct plain_answer plain_check_frame(size_t samples, int32_t first, int64_t frame)
 {
     if (samples == 0 || samples > MOST_SAMPLES)
         return plain_refused(12, 0);
@@ -76,7 +76,7 @@ struct plain_answer plain_check_frame(size_t samples, int32_t first, int32_t fra
     return plain_done(0);
 }
 
-struct point plain_sample(const int16_t *codes, size_t position, int32_t first, int32_t frame)
+struct point plain_sample(const int16_t *codes, size_t position, int32_t first, int64_t frame)
 {
     struct point point = {{(int64_t)first + (int64_t)position, codes[position], frame}};
     return point;

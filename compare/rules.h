@@ -133,7 +133,13 @@ static inline uint64_t greatest_word(int axis)
 
 /* Frames, text, and the listing program's list (sections 10, 11 and 15). */
 #define MOST_SAMPLES 65536
+#define MOST_FRAMES 500
 #define MOST_TEXT_BYTES 16384
 #define LISTING_WORDS 8192
+
+/* The triple of a frame in a screenful: what is told (of a refusal, TOLD_REFUSED plus its number); the first position, or the
+   refusal's value; the number of inside samples. */
+enum { TRIPLE_TOLD = 0, TRIPLE_VALUE = 1, TRIPLE_COUNT = 2, TRIPLE_WORDS = 3 };
+enum { TOLD_CLEAR = 0, TOLD_HIT = 1, TOLD_REFUSED = 100 };
 
 #endif

@@ -36,6 +36,15 @@ static void show_frame(const struct frame *frame)
     printf("\n");
 }
 
+static void show_screen(const struct screen *screen)
+{
+    printf("%zu frames from %" PRId32 " on, of %zu samples together", screen->frames, screen->number, screen->samples);
+    printf(", from column %" PRId32 "\n ", screen->first);
+    for (size_t k = 0; k < shown(screen->samples); k++)
+        printf(" %d", screen->code[k]);
+    printf("\n");
+}
+
 static int is_shown_as_is(uint8_t byte)
 {
     return byte == '\t' || byte == '\n' || (byte >= ' ' && byte < 127);
@@ -58,6 +67,8 @@ void show_question(const struct question *q)
         show_list(q->list);
     if (q->frame != NULL)
         show_frame(q->frame);
+    if (q->screen != NULL)
+        show_screen(q->screen);
     if (q->text != NULL)
         show_text(q->text);
     if (q->call == TREE_POINT || q->call == LIST_POINT)
@@ -65,6 +76,6 @@ void show_question(const struct question *q)
     if (q->call == MAKE_LIST)
         printf("window %" PRId32 "..%" PRId32 " %" PRId32 "..%" PRId32 " %" PRId32 "..%" PRId32 "\n", q->window.xlo,
                q->window.xhi, q->window.ylo, q->window.yhi, q->window.zlo, q->window.zhi);
-    if (q->call == MAKE_LIST || q->call == READ_TEXT || q->call == WRITE_TEXT)
+    if (q->call == MAKE_LIST || q->call == READ_TEXT || q->call == WRITE_TEXT || q->call == LIST_SEARCH_FRAMES)
         printf("room %zu\n", q->room);
 }

@@ -8,16 +8,28 @@
 
 const char *const call_name[CALLS] = {
     "check", "tree_point", "tree_search", "make_list", "list_point", "list_search", "read_text", "write_text",
+    "list_search_frames",
 };
 
 /* The refusals that the rules give each call, ended by 0. */
 static const int refusals_of[CALLS][REFUSALS] = {
     {1, 2, 3, 4, 5},        {1, 2, 3, 4, 5, 10},        {1, 2, 3, 4, 5, 12}, {1, 2, 3, 4, 5, 6, 7, 8},
     {1, 2, 3, 4, 5, 9, 11, 10}, {1, 2, 3, 4, 5, 9, 11, 12, 10}, {13, 3, 4, 5, 8},    {1, 2, 3, 4, 5, 8},
+    {1, 2, 3, 4, 5, 9, 11, 12, 8},
+};
+
+/* What the triple of a frame can tell; a refusal by 12 is told apart by its value. */
+enum { FRAME_CLEAR, FRAME_HIT, FRAME_10, FRAME_12, TOLD = FRAME_12 + 3 };
+
+static const char *const told_name[TOLD] = {
+    "clear", "hit", "refused 10", "refused 12 with 0", "refused 12 with 1", "refused 12 with 2",
 };
 
 /* Answers by call, those with a point or a sample inside apart from the others, and refusals by call and number. */
 static uint64_t answered[CALLS][2], refused[CALLS][REFUSALS + 1];
+
+/* Triples by what they tell. */
+static uint64_t told[TOLD];
 
 static int asks_point(enum call call)
 {
@@ -43,9 +55,22 @@ void tally(enum call call, struct plain_answer answer)
         refused[call][answer.refusal]++;
 }
 
+void tally_triple(const uint32_t *triple)
+{
+    switch (triple[TRIPLE_TOLD]) {
+    case TOLD_CLEAR: told[FRAME_CLEAR]++; break;
+    case TOLD_HIT: told[FRAME_HIT]++; break;
+    case TOLD_REFUSED + 10: told[FRAME_10]++; break;
+    default: told[FRAME_12 + triple[TRIPLE_VALUE]]++; break;
+    }
+}
+
+/* The frame of each triple was asked about alone, too. */
 static uint64_t calls_asked(void)
 {
     uint64_t asked = 0;
+    for (int what = 0; what < TOLD; what++)
+        asked += told[what];
     for (int call = 0; call < CALLS; call++) {
         asked += answered[call][0] + answered[call][1];
         for (int number = 1; number <= REFUSALS; number++)
@@ -62,20 +87,34 @@ void print_tally(uint64_t seed, uint64_t cases)
     printf(", inside %" PRIu64, answered[TREE_POINT][1] + answered[LIST_POINT][1]);
     printf(", clear %" PRIu64, answered[TREE_SEARCH][0] + answered[LIST_SEARCH][0]);
     printf(", hit %" PRIu64, answered[TREE_SEARCH][1] + answered[LIST_SEARCH][1]);
-    printf(", written %" PRIu64 "; refused", answered[MAKE_LIST][0] + answered[READ_TEXT][0] + answered[WRITE_TEXT][0]);
+    printf(", written %" PRIu64 "; refused", answered[MAKE_LIST][0] + answered[READ_TEXT][0] + answered[WRITE_TEXT][0]
+                                              + answered[LIST_SEARCH_FRAMES][0]);
     for (int number = 1; number <= REFUSALS; number++) {
         uint64_t seen = 0;
         for (int call = 0; call < CALLS; call++)
             seen += refused[call][number];
         printf("%s %d: %" PRIu64, number == 1 ? "" : ",", number, seen);
     }
+    for (int what = 0; what < TOLD; what++)
+        printf("%s %s: %" PRIu64, what == 0 ? "; triples" : ",", told_name[what], told[what]);
     printf("\n");
 }
 
-/* Was every answer and refusal that the rules give a call seen of that call? Names those that were not. */
-int is_all_seen(void)
+static int is_all_told(void)
 {
     int all = 1;
+    for (int what = 0; what < TOLD; what++)
+        if (told[what] == 0) {
+            printf("differ: a triple that tells %s was never seen\n", told_name[what]);
+            all = 0;
+        }
+    return all;
+}
+
+/* Was every answer and refusal that the rules give a call seen of it, and all that a triple can tell? Names what was not. */
+int is_all_seen(void)
+{
+    int all = is_all_told();
     for (int call = 0; call < CALLS; call++) {
         if (answered[call][0] == 0 || (asks_inside(call) && answered[call][1] == 0)) {
             printf("differ: an answer of %s was never seen\n", call_name[call]);

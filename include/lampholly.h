@@ -25,15 +25,16 @@
    - A buffer of length 0 may be NULL.
    - The buffers of one call must not overlap.
    - Nothing outside the lent buffers is read or written, nothing is allocated and nothing is kept between calls.
-   - A refusal leaves every buffer as it was. A call that writes leaves what lies beyond its result as it was.
+   - A refused call leaves every buffer as it was. A call that writes leaves what lies beyond its result as it was.
    - Every input has an answer; no call has a precondition besides those above.
 
    Threads: calls keep no state, so they may run at the same time unless one writes a buffer that is lent to another.
-   Stack: bytes as measured (no bounds) on tables of 127 rows: check 320; write_text 416; list_point 512; list_search 560;
-   tree_point 4,256; tree_search 4,320; read_text 7,696; make_list 11,408. docs/PERFORMANCE.md says how.
+   Stack: bytes as measured (no bounds) on tables of 127 rows: check 320; write_text 416; list_search 448; list_point 512;
+   list_search_frames 592; tree_point 4,256; tree_search 4,320; read_text 7,696; make_list 11,408. docs/PERFORMANCE.md says how.
    Cost: linear in the rows for check, tree_point and write_text; in the bytes for read_text; in samples * rows for tree_search;
-   in rows + list words for list_point; in samples * (rows + list words) for list_search. make_list takes rows * rows, and then
-   what the choices take that it has to go through: docs/PERFORMANCE.md has times, and no bound is known.
+   in rows + list words for list_point; in samples * (rows + list words) for list_search. list_search_frames checks table and
+   list once, then takes for each frame what list_search takes for it. make_list takes rows * rows, and then what the choices
+   take that it has to go through: docs/PERFORMANCE.md has times, and no bound is known.
 
    The table's refusals, in their order; each call that takes a table gives them first
       1  words not a multiple of 12, no row, or over 127 rows      value: words
@@ -42,7 +43,11 @@
       3  a field out of its rule, or a spare word not 0            value: row
       4  a child negative or not an earlier row                    value: row
       then
-      5  a row but the last is child never or more than once       value: lowest such row */
+      5  a row but the last is child never or more than once       value: lowest such row
+
+   The list's refusals, in their order; each call that takes a table and a list gives them right after the table's
+      9  the list is malformed                                     value: first faulty word; if under 8 are lent, their number
+     11  list and table differ in the number of primitives         value: the table's */
 #ifndef LAMPHOLLY_H
 #define LAMPHOLLY_H
 
@@ -54,7 +59,7 @@ extern "C" {
 #endif
 
 /* The header's own: hundreds rise where a program that was right may need a change, ones where something was added. */
-#define LAMPHOLLY_VERSION 100
+#define LAMPHOLLY_VERSION 201
 
 /* The kinds of rows. */
 #define LAMPHOLLY_BOX 0
@@ -79,10 +84,12 @@ extern "C" {
 #define LAMPHOLLY_REFUSED_FRAME 12
 #define LAMPHOLLY_REFUSED_TEXT 13
 
-/* What always suffices: a table of 127 rows, a list of 65,536 products, the longest text that can be read. */
+/* What always suffices: a table of 127 rows, a list of 65,536 products, the longest text that can be read, the triples of 500
+   frames. */
 #define LAMPHOLLY_TABLE_WORDS 1524
 #define LAMPHOLLY_LIST_WORDS 131080
 #define LAMPHOLLY_TEXT_BYTES 16384
+#define LAMPHOLLY_TRIPLE_WORDS 1500
 
 /* What a call answers. `refusal` is 0 where nothing is refused; then `value` and `count` are
       0, 0                sound, outside, clear
@@ -145,17 +152,14 @@ struct lampholly_answer lampholly_make_list(const int32_t *table, size_t words, 
    it was is not looked at, but for the number of primitives.
    A list may be lent longer than its products need; the rest is not read.
    Answers: outside (0, 0, 0) or inside (0, 1, 0).
-   Refusals: the table's; then
-      9  the list is malformed                   value: word of the first fault; if under 8 words are lent, their number
-     11  list and table differ in the number of primitives      value: the table's
+   Refusals: the table's; the list's; then
      10  the point is out of the list's window   value: first bad axis, 0..2 */
 struct lampholly_answer lampholly_list_point(const int32_t *table, size_t words,
                                              const uint64_t *list, size_t list_words, int32_t x, int32_t y, int32_t z);
 
 /* Searches a frame by the list; samples as in lampholly_tree_search, inside as in lampholly_list_point.
    Answers: clear (0, 0, 0), or hit (0, position of the first inside sample, number of inside samples).
-   Refusals: the table's; then
-      9, 11  as in lampholly_list_point
+   Refusals: the table's; the list's; then
      12  as in lampholly_tree_search
      10  a sample is out of the list's window    value: position of the first such sample */
 struct lampholly_answer lampholly_list_search(const int32_t *table, size_t words,
@@ -178,6 +182,24 @@ struct lampholly_answer lampholly_read_text(const uint8_t *text, size_t bytes, i
    Refusals: the table's; then
       8  no room                                 value: bytes needed */
 struct lampholly_answer lampholly_write_text(const int32_t *table, size_t words, uint8_t *text, size_t room);
+
+/* Searches up to 500 frames of one length by the list, each as lampholly_list_search does. They lie end to end in
+   codes[0 .. samples - 1], so that each has samples / frames of them, and all start at column `first`. The first has the number
+   `frame`, each further one a number greater by one. Writes three words a frame into triples[0 .. room - 1]:
+      0, 0, 0                   clear
+      1, position, count        hit: the first inside sample, counted from 0 in its frame, and how many there are
+      100 + number, value, 0    refused, by 12 or 10; the other frames are searched all the same
+   So frames of no sample, or of over 65,536, have 112, 0, 0 each; a column out of range gives 112, 1, 0 and a frame number out
+   of range 112, 2, 0.
+   Answers: written (0, 3 * frames, 0).
+   Refusals, of the whole call: the table's; the list's; then
+     12  no frame, over 500, or samples not a multiple of frames     value: 0
+      8  no room                                                     value: words needed, 3 * frames */
+struct lampholly_answer lampholly_list_search_frames(const int32_t *table, size_t words,
+                                                     const uint64_t *list, size_t list_words,
+                                                     const int16_t *codes, size_t samples, size_t frames,
+                                                     int32_t first, int32_t frame,
+                                                     uint32_t *triples, size_t room);
 
 #ifdef __cplusplus
 }

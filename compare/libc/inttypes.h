@@ -5,6 +5,7 @@
 
 #define PRId32 __INT32_FMTd__
 #define PRId64 __INT64_FMTd__
+#define PRIu32 __UINT32_FMTu__
 #define PRIu64 __UINT64_FMTu__
 
 #endif

@@ -15,5 +15,6 @@ typedef __UINT64_TYPE__ uint64_t;
 #define INT64_MAX __INT64_MAX__
 #define INT64_MIN (-INT64_MAX - 1)
 #define UINT64_MAX __UINT64_MAX__
+#define SIZE_MAX __SIZE_MAX__
 
 #endif

@@ -161,7 +161,7 @@ fn search_in(table: &[i32], list: &[u64], samples: &[i16], place: Place) -> Sear
 }
 
 // Table and list are accepted: the frame, then its samples.
-fn search_by(table: &[i32], list: &[u64], samples: &[i16], place: Place) -> Searched
+pub fn search_by(table: &[i32], list: &[u64], samples: &[i16], place: Place) -> Searched
     requires { ⌜ Accepted (now table) (now list) ⌝ }
     ensures { λ r. ⌜ ListSearched (now (table .entry)) (now (list .entry)) (now (samples .entry)) place r ⌝ }
 {

@@ -128,6 +128,14 @@ module _ {A : Type 0} where
   rulings-none f n e k h = go-none f 0 (n - 0) e k (omega arith) (omega arith)
 
   -- of several rules in order
+  pub first-broken : (x : Option A) (xs : List (Option A)) {a : A} → x ≡ some a → firstOf (x ∷ xs) ≡ some a
+  unfolding firstOf
+  first-broken x xs h = rw h
+
+  pub first-passed : (x : Option A) (xs : List (Option A)) → x ≡ none → firstOf (x ∷ xs) ≡ firstOf xs
+  unfolding firstOf
+  first-passed x xs h = rw h
+
   pub first-kept : (x : Option A) (xs : List (Option A)) → firstOf (x ∷ xs) ≡ none → (x ≡ none) × (firstOf xs ≡ none)
   unfolding firstOf
   first-kept x xs e = none-first x (firstOf xs) e
@@ -153,6 +161,16 @@ module _ (test : ℕ → Bool) where
 
   pub all-at-each : (n : ℕ) → allOf test (below n) ≡ true → (k : ℕ) → k < n → test k ≡ true
   all-at-each n h k l = go-at 0 n h k (omega arith) (omega arith)
+
+-- what is made of each number below n has the property
+module _ {A : Type 0} (P : A → Type 0) (f : ℕ → A) where
+  go-made : (start n : ℕ) → ((k : ℕ) → start ≤ k → k < start + n → P (f k)) → All P (map f (from start n))
+  unfolding from
+  go-made start zero h = tt
+  go-made start (suc n) h = (h start (omega arith) (omega arith), go-made (suc start) n (λ k a b. h k (omega arith) (omega arith)))
+
+  pub all-made : (n : ℕ) → ((k : ℕ) → k < n → P (f k)) → All P (map f (rest 0 n))
+  all-made n h = go-made 0 (n - 0) (λ k a b. h k (omega arith))
 
 -- ---- the first broken rule of several lists of rules
 

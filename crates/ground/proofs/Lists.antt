@@ -34,6 +34,16 @@ module _ {A : Type 0} where
       go true h k rest = let s : y ≡ x = cc in subst (λ (z : A). test z ≡ true) s h
       go false h k rest = rest k
 
+  -- and has what every element has
+  pub found-has : (P : A → Type 0) (test : A → Bool) (xs : List A) → All P xs → {x : A} → findIf test xs ≡ some x → P x
+  unfolding findIf
+  found-has P test [] all e = let z : _≡_ {A = ℕ} 0 1 = cc in absurd (omega arith)
+  found-has P test (y ∷ ys) all {x} e = go (test y) e (found-has P test ys (all .1))
+    where
+      go : (b : Bool) → (if b then some y else findIf test ys) ≡ some x → (findIf test ys ≡ some x → P x) → P x
+      go true k rest = let s : y ≡ x = cc in subst P s (all .0)
+      go false k rest = rest k
+
   pub not-found : (test : A → Bool) (xs : List A) → All (λ x. test x ≡ false) xs → findIf test xs ≡ none
   unfolding findIf
   not-found test [] h = refl

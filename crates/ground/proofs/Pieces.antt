@@ -3,10 +3,10 @@
 use Prim.Native.Nat.{ℕ, zero, suc, _+_, _*_, _≤_, _<_}
 use native.Mathlib.Nat.{add-zero, zero-add}
 use native.Mathlib.Omega.{arith}
-use mathlib.Core.List.{List, [], _∷_, _++_, map, flatMap}
+use mathlib.Core.List.{List, [], _∷_, _++_, map, flatMap, append-assoc}
 use mathlib.Core.Path.{_≡_, refl, sym, ap, _∙_}
-use lib.ListN.{length, getD, length-append, List·getD-append}
-use lib.Seq.{getD-append-add}
+use lib.ListN.{length, getD, take, drop, length-append, List·getD-append}
+use lib.Seq.{getD-append-add, take-at, drop-append-add}
 use Rattle.ground.specs.Lists.{from, below, All}
 
 pub from-length : (start n : ℕ) → length (from start n) ≡ n
@@ -77,3 +77,24 @@ module _ {A B : Type 0} (f : A → List B) where
         ap (λ (j : ℕ). getD (f x ++ flatMap f xs) j e) on
         ∙ getD-append-add (f x) (flatMap f xs) (k * n + i) e
         ∙ piece-at d e xs (h .1) k i (omega arith) m
+
+-- a piece of n elements for each number: that of number k stands whole in its place, whatever follows the last
+module _ {A : Type 0} (f : ℕ → List A) (n : ℕ) (each : (k : ℕ) → length (f k) ≡ n) where
+  piece-from : (start m : ℕ) (more : List A) (k : ℕ) → k < m → take n (drop (n * k) (flatMap f (from start m) ++ more)) ≡ f (start + k)
+  unfolding from flatMap
+  piece-from start zero more k l = absurd (omega arith)
+  piece-from start (suc m) more zero l =
+      let here : n * 0 ≡ 0 = omega arith in
+      let others = flatMap f (from (suc start) m) in
+      (λ i. take n (drop (here i) (append-assoc (f start) others more i))) ∙ take-at (f start) (others ++ more) n (each start) ∙ ap f (sym (add-zero start))
+  piece-from start (suc m) more (suc k) l =
+      let there : n * suc k ≡ length (f start) + n * k = omega (arith, each start) in
+      let others = flatMap f (from (suc start) m) in
+      let on : suc start + k ≡ start + suc k = omega arith in
+      (λ i. take n (drop (there i) (append-assoc (f start) others more i)))
+      ∙ ap (take n) (drop-append-add (f start) (others ++ more) (n * k))
+      ∙ piece-from (suc start) m more k (omega arith)
+      ∙ ap f on
+
+  pub piece-below : (m : ℕ) (more : List A) (k : ℕ) → k < m → take n (drop (n * k) (flatMap f (below m) ++ more)) ≡ f k
+  piece-below m more k l = piece-from 0 m more k l ∙ ap f (zero-add k)

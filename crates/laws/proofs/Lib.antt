@@ -5,7 +5,9 @@ pub mod Axes
 pub mod Ranges
 pub mod Trees
 pub mod Telling
+pub mod Refusing
 pub mod Columns
+pub mod Screens
 pub mod Apart
 pub mod Numbers
 pub mod Expansion

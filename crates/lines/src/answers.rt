@@ -5,7 +5,7 @@ use rules::Refusal;
 use rules::Searched;
 ghost use Prim.Native.Nat.{_≤_};
 
-// What a list's buffer is filled with before the call; no list here has such a word.
+// What a buffer is filled with before the call; no list and no triple here has such a word.
 pub const FILL: u64 = 777777;
 
 pub fn number(n: u64) {

@@ -10,6 +10,7 @@ pub mod ListAsTree
 pub mod Strangers
 pub mod Outcomes
 pub mod Searches
+pub mod Screens
 pub mod Copies
 pub mod RoundTrips
 pub mod Possible

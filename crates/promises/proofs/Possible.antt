@@ -2,18 +2,18 @@
 use Prim.Native.Nat.{ℕ, suc, _-_, _≤_}
 use native.Mathlib.Omega.{arith}
 use mathlib.Core.Bool.{Bool, true, false, _&&_}
-use mathlib.Core.List.{List, [], _∷_, map, flatMap}
+use mathlib.Core.List.{List, [], _∷_, flatMap}
 use mathlib.Core.Option.{Option, none, some}
-use mathlib.Core.Path.{_≡_, refl, sym, subst}
+use mathlib.Core.Path.{_≡_, refl}
 use borrow.Author.Tests.{leb-true}
 use lib.Dec.{leb}
 use lib.IntN.{ℤ}
 use lib.ListN.{length}
-use Rattle.ground.specs.Lists.{All, below, rest, countIf, findIf, firstOf, rulings}
+use Rattle.ground.specs.Lists.{All, below, countIf, findIf, firstOf}
 use Rattle.ground.specs.Tests.{if_then_else_}
 use Rattle.ground.proofs.Branches.{and-left, and-right}
 use Rattle.ground.proofs.Lists.{all-append, all-flatMap}
-use Rattle.ground.proofs.Pieces.{all-each, all-mapped}
+use Rattle.ground.proofs.Pieces.{all-each}
 use Rattle.rules.specs.declared.Checked.{Checked}
 use Rattle.rules.specs.declared.Kind.{Kind}
 use Rattle.rules.specs.declared.Located.{Located}
@@ -26,7 +26,7 @@ use Rattle.rules.specs.declared.Written.{Written}
 use Rattle.rules.specs.Boxes.{Box, holds}
 use Rattle.rules.specs.Frame.{codeAt, pointOf, frameRefusal, leavesRefusal, sampleInside, firstInside, insideCount}
 use Rattle.rules.specs.Inside.{inside}
-use Rattle.rules.specs.ListCalls.{windowRefusal, makeRefusal, ListMade, acceptRefusal, listPointRefusal, ListLocated, listSearchRefusal, ListSearched}
+use Rattle.rules.specs.ListCalls.{windowRefusal, makeRefusal, ListMade, acceptRefusal, listPointRefusal, ListLocated, listSearchRefusal, ListSearched, screenRefusal, ScreenSearched}
 use Rattle.rules.specs.ListFaults.{headerRefusals, productRefusals, listRefusal}
 use Rattle.rules.specs.ListInside.{insideList}
 use Rattle.rules.specs.ListWords.{productCount}
@@ -38,43 +38,38 @@ use Rattle.rules.specs.Told.{Tale, Told, sound, fine, tell, toldChecked, toldLo
 use Rattle.rules.specs.Tree.{treeOf}
 use Rattle.rules.specs.TreeCalls.{pointRefusal, pointTale, searchTale, TableChecked, treePointRefusal, TreeLocated, treeSearchRefusal, TreeSearched}
 use Rattle.rules.specs.Verdict.{rowRefusalBy, rowRefusal, rowsRefusal, childOnce, childRefusal, tableRefusal}
+use Rattle.laws.proofs.Refusing.{Gives, none-gives, refuse-gives, if-gives, unless-gives, first-gives, rulings-give, told-by}
 use Rattle.promises.specs.Possible.{lastRefusal, InTable, Possible}
 
 -- ---- a rule refuses nothing, or by a number of the table
 
-record Tabled (rule : Option Refusal) : Type 0 where
-  number : {q : Refusal} → rule ≡ some q → InTable (q .number)
+abbrev Numbered : Refusal → Type 0
+Numbered q = InTable (q .number)
 
-none-tabled : Tabled none
-none-tabled = record { number = λ e. let z : _≡_ {A = ℕ} 0 1 = cc in absurd (omega arith) }
+abbrev Tabled : Option Refusal → Type 0
+Tabled = Gives Numbered
 
 -- a numeral passes this test by itself
 abbrev inTable : ℕ → Bool
 inTable number = leb 1 number && leb number lastRefusal
 
+in-table : (number : ℕ) → inTable number ≡ true → InTable number
+in-table number i = (
+  leb-true 1 number (and-left (leb 1 number) (leb number lastRefusal) i),
+  leb-true number lastRefusal (and-right (leb 1 number) (leb number lastRefusal) i),
+)
+
 refuse-tabled : (number value : ℕ) → inTable number ≡ true → Tabled (refuse number value)
-refuse-tabled number value i =
-    let low = leb-true 1 number (and-left (leb 1 number) (leb number lastRefusal) i) in
-    let high = leb-true number lastRefusal (and-right (leb 1 number) (leb number lastRefusal) i) in
-    record { number = λ {q} e. let same : number ≡ q .number = cc in subst InTable same (low, high) }
+refuse-tabled number value i = refuse-gives Numbered number value (in-table number i)
 
 if-tabled : (b : Bool) (number value : ℕ) → inTable number ≡ true → Tabled (refuseIf b number value)
-if-tabled true number value i = refuse-tabled number value i
-if-tabled false number value i = none-tabled
+if-tabled b number value i = if-gives Numbered b number value (in-table number i)
 
 unless-tabled : (b : Bool) (number value : ℕ) → inTable number ≡ true → Tabled (refuseUnless b number value)
-unless-tabled true number value i = none-tabled
-unless-tabled false number value i = refuse-tabled number value i
+unless-tabled b number value i = unless-gives Numbered b number value (in-table number i)
 
--- the first of several rules that is broken
 first-tabled : (rules : List (Option Refusal)) → All Tabled rules → Tabled (firstOf rules)
-unfolding firstOf
-first-tabled [] all = none-tabled
-first-tabled (none ∷ rules) all = first-tabled rules (all .1)
-first-tabled (some q ∷ rules) all = all .0
-
-rulings-tabled : (rule : ℕ → Option Refusal) → ((k : ℕ) → Tabled (rule k)) → (k n : ℕ) → Tabled (rulings rule k n)
-rulings-tabled rule each k n = first-tabled (map rule (rest k n)) (all-mapped Tabled rule each (rest k n))
+first-tabled = first-gives Numbered
 
 ruleset tabled = (if-tabled, unless-tabled, refuse-tabled, first-tabled)
 
@@ -85,10 +80,10 @@ row-tabled none w row = search tabled
 row-tabled (some kind) w row = search tabled
 
 rows-tabled : (t : List ℤ) → Tabled (rowsRefusal t)
-rows-tabled t = rulings-tabled (rowRefusal t) (λ row. row-tabled (kindAt t row) (wordAt t row) row) 0 (rowCount t)
+rows-tabled t = rulings-give Numbered (rowRefusal t) (rowCount t) (λ row l. row-tabled (kindAt t row) (wordAt t row) row)
 
 child-tabled : (t : List ℤ) → Tabled (childRefusal t)
-child-tabled t = rulings-tabled (λ row. refuseUnless (childOnce t row) 5 row) (λ row. search tabled) 0 (rowCount t - 1)
+child-tabled t = rulings-give Numbered (λ row. refuseUnless (childOnce t row) 5 row) (rowCount t - 1) (λ row l. search tabled)
 
 table-tabled : (t : List ℤ) → Tabled (tableRefusal t)
 unfolding tableRefusal
@@ -102,7 +97,7 @@ frame-tabled samples place = search tabled
 
 leaves-tabled : (window : Box) (samples : List ℤ) (place : Place) → Tabled (leavesRefusal window samples place)
 leaves-tabled window samples place =
-    rulings-tabled (λ k. refuseUnless (holds window (pointOf place k (codeAt samples k))) 10 k) (λ k. search tabled) 0 (length samples)
+    rulings-give Numbered (λ k. refuseUnless (holds window (pointOf place k (codeAt samples k))) 10 k) (length samples) (λ k l. search tabled)
 
 list-tabled : (list : List ℕ) → Tabled (listRefusal list)
 unfolding listRefusal
@@ -122,15 +117,14 @@ window-tabled w = search tabled depth 8
 form-tabled : {text : List ℕ} (form : TextForm text) → Tabled (formRefusal form)
 form-tabled (too-long over) = search tabled
 form-tabled (faulty line short fault) = search tabled
-form-tabled (spelt rows short some-row not-over right is) = none-tabled
+form-tabled (spelt rows short some-row not-over right is) = none-gives Numbered
 
 ruleset calls = (tabled, table-tabled, point-tabled, frame-tabled, leaves-tabled, accept-tabled, window-tabled, form-tabled)
 
 -- ---- what is told by such a rule, or else by a tale that is possible where nothing is refused
 
 told-possible : (rule : Option Refusal) (tale : Tale) → Tabled rule → Possible (fine tale) → {told : Told} → told ≡ tell rule tale → Possible told
-told-possible none tale tabled possible e = subst Possible (sym e) possible
-told-possible (some q) tale tabled possible e = subst Possible (sym e) (tabled .number refl)
+told-possible rule tale tabled possible = told-by Possible rule tale tabled (λ kept. possible)
 
 point-possible : (b : Bool) → Possible (fine (pointTale b))
 point-possible true = refl
@@ -179,6 +173,11 @@ pub list-search-possible : {t : List ℤ} {list : List ℕ} {samples : List ℤ}
     → ListSearched t list samples place r → Possible (toldSearched r)
 list-search-possible {t} {list} {samples} {place} m =
     told-possible (listSearchRefusal t list samples place) _ (search calls depth 9) (search-possible (insideList (primitives t) list) samples place) (m .answer)
+
+pub list-search-frames-possible : {t : List ℤ} {list : List ℕ} {codes : List ℤ} {frames : ℕ} {place : Place} {before after : List ℕ} {r : Written}
+    → ScreenSearched t list codes frames place before after r → Possible (toldWritten r)
+list-search-frames-possible {t} {list} {codes} {frames} {place} {before} m =
+    told-possible (screenRefusal t list codes frames (length before)) _ (search calls depth 9) refl (m .answer)
 
 pub read-text-possible : {text : List ℕ} {before after : List ℤ} {r : Written} → TextRead text before after r → Possible (toldWritten r)
 read-text-possible {before = before} m = told-possible (readRefusal (m .form) (length before)) _ (search calls depth 9) refl (m .answer)

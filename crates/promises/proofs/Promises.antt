@@ -1,5 +1,5 @@
 -- The three promises hold: each sentence cites the theorem that keeps it. Assumes nothing.
-use Prim.Native.Nat.{ℕ}
+use Prim.Native.Nat.{ℕ, _*_}
 use native.Mathlib.Omega.{arith}
 use mathlib.Core.List.{List}
 use mathlib.Core.Option.{Option}
@@ -14,9 +14,10 @@ use Rattle.rules.specs.declared.Written.the-variants.{Wrote}
 use Rattle.rules.specs.Boxes.{Box}
 use Rattle.rules.specs.Frame.{firstInside, insideCount}
 use Rattle.rules.specs.Inside.{inside}
-use Rattle.rules.specs.ListCalls.{zoneList, makeRefusal, ListMade, listPointRefusal, listSearchRefusal}
+use Rattle.rules.specs.ListCalls.{zoneList, makeRefusal, ListMade, listPointRefusal, listSearchRefusal, screenRefusal}
 use Rattle.rules.specs.ListInside.{insideList}
 use Rattle.rules.specs.Products.{products}
+use Rattle.rules.specs.Screen.{tripleWords}
 use Rattle.rules.specs.Table.{primitives}
 use Rattle.rules.specs.TextCalls.{tableRead, readRefusal, tableText, writeRefusal}
 use Rattle.rules.specs.Told.{fine, wrote, tell, toldWritten}
@@ -24,13 +25,15 @@ use Rattle.rules.specs.Tree.{treeOf}
 use Rattle.rules.specs.TreeCalls.{treePointRefusal, treeSearchRefusal}
 use Rattle.rules.proofs.Settled.{tree-located-settled, tree-searched-settled, list-located-settled, list-searched-settled, list-made-settled}
 use Rattle.rules.proofs.Settled.{text-read-settled, text-written-settled, list-made-keeps, text-read-keeps, text-written-keeps}
-use Rattle.rules.proofs.Told.{written-once}
+use Rattle.rules.proofs.Settled.{screen-searched-settled, screen-searched-keeps}
+use Rattle.rules.proofs.Told.{written-once, triple-once}
 use Rattle.promises.specs.Promises.{Promise1, InTree, InList, Made, Faithful, Promise2, Listable, Promise3}
 use Rattle.promises.proofs.ListAsTree.{sampleHeld, window-in-range, made-passes, list-locates, list-answers-tree, list-refuses-outside, searches-agree}
 use Rattle.promises.proofs.Copies.{list-needs, listable-fine, not-refused, made-listable, made-fits, made-length, made-words, made-here}
 use Rattle.promises.proofs.Outcomes.{check-answers, point-answers, search-answers, writes, read-answer}
 use Rattle.promises.proofs.Buffers.{list-right, list-rest, list-room}
 use Rattle.promises.proofs.Searches.{search-finds}
+use Rattle.promises.proofs.Screens.{screen-writes, screen-tells}
 use Rattle.promises.proofs.Sets.{tests-are-sets, tree-answers-sets}
 use Rattle.promises.proofs.Strangers.{stranger-refused}
 use Rattle.promises.proofs.RoundTrips.{writes-text, table-text-table, reads-text, text-table-text}
@@ -54,6 +57,9 @@ promise-1 = record {
       let isInside = insideList (primitives t) list in
       search-answers (listSearchRefusal t list samples place) (firstInside isInside samples place) (insideCount isInside samples place)
       (λ r m. m .answer) (λ r s. list-searched-settled);
+  list-search-frames = λ t list codes frames place before.
+      writes (screenRefusal t list codes frames (length before)) (tripleWords * frames)
+      (λ after r m. m .answer) (λ a b r s. screen-searched-settled) (λ after q. screen-searched-keeps);
   read-text = λ text form before.
       writes (readRefusal form (length before)) (length (tableRead form))
       (λ after r. read-answer form) (λ a b r s. text-read-settled) (λ after q. text-read-keeps);
@@ -96,6 +102,9 @@ promise-2 = record {
   list-searches = λ t list samples place.
       let isInside = insideList (primitives t) list in
       search-finds isInside (InList t list) (λ p. says-itself (isInside p)) samples place (listSearchRefusal t list samples place) (λ r m. m .answer);
+  screen-writes = screen-writes;
+  screen-tells = screen-tells;
+  triples-apart = triple-once;
   writes-text = writes-text;
   table-text-table = table-text-table;
   reads-text = reads-text;

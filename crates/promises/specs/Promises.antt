@@ -8,7 +8,7 @@ use mathlib.Core.Logic.{_⊎_}
 use mathlib.Core.Option.{Option, none, some}
 use mathlib.Core.Path.{_≡_}
 use lib.IntN.{ℤ}
-use lib.ListN.{length, take}
+use lib.ListN.{length, take, drop}
 use Rattle.ground.specs.Lists.{All, Some, keepIf}
 use Rattle.rules.specs.declared.Located.{Located}
 use Rattle.rules.specs.declared.Place.{Place}
@@ -22,10 +22,12 @@ use Rattle.rules.specs.Boxes.{holds, everywhere, windowBox}
 use Rattle.rules.specs.Choices.{choices, inOf, expansion}
 use Rattle.rules.specs.Frame.{codeAt, heldCodes, pointOf, frameRefusal}
 use Rattle.rules.specs.ListCalls.{mostChoices, windowRefusal, makeRefusal, ListMade, listPointRefusal, ListLocated, listSearchRefusal, ListSearched}
+use Rattle.rules.specs.ListCalls.{screenRefusal, ScreenSearched}
 use Rattle.rules.specs.ListInside.{insideList}
 use Rattle.rules.specs.ListWords.{headerWords, productWords, listOf, word}
 use Rattle.rules.specs.Products.{stays, trimmed, firsts}
 use Rattle.rules.specs.Refusals.{refuse}
+use Rattle.rules.specs.Screen.{frameAt, later, tripleWords, tripleOf}
 use Rattle.rules.specs.Table.{primitives}
 use Rattle.rules.specs.TextCalls.{tableRead, formRefusal, readRefusal, TextRead, tableText, writeRefusal, TextWritten}
 use Rattle.rules.specs.TextForm.{Word32, TextForm}
@@ -64,7 +66,7 @@ pub record Writes {A : Type 0} (Meets : List A → Written → Type 0) (before :
   -- a refusal leaves the buffer as it was
   pub unchanged : {after : List A} {r : Written} {q : Refusal} → Meets after r → toldWritten r ≡ refused q → after ≡ before
 
--- the eight public calls, at every input
+-- the nine public calls, at every input
 pub record Promise1 : Type 0 where
   pub check-table : (t : List ℤ) → OnlyAnswers toldChecked (TableChecked t) (tableRefusal t)
   pub tree-point : (t : List ℤ) (p : Point) → OnlyAnswers toldLocated (TreeLocated t p) (treePointRefusal t p)
@@ -74,6 +76,8 @@ pub record Promise1 : Type 0 where
   pub list-point : (t : List ℤ) (list : List ℕ) (p : Point) → OnlyAnswers toldLocated (ListLocated t list p) (listPointRefusal t list p)
   pub list-search : (t : List ℤ) (list : List ℕ) (samples : List ℤ) (place : Place)
       → OnlyAnswers toldSearched (ListSearched t list samples place) (listSearchRefusal t list samples place)
+  pub list-search-frames : (t : List ℤ) (list : List ℕ) (codes : List ℤ) (frames : ℕ) (place : Place) (before : List ℕ)
+      → Writes (ScreenSearched t list codes frames place before) before (screenRefusal t list codes frames (length before))
   -- `form` is how the text stands: too long, with a first faulty line, or right
   pub read-text : (text : List ℕ) (form : TextForm text) (before : List ℤ) → Writes (TextRead text before) before (readRefusal form (length before))
   pub write-text : (t : List ℤ) (before : List ℕ) → Writes (TextWritten t before) before (writeRefusal t (length before))
@@ -172,6 +176,17 @@ pub record Promise2 : Type 0 where
       → Search (SampleIn (InTree t) samples place) (length samples) (treeSearchRefusal t samples place) (TreeSearched t samples place)
   pub list-searches : (t : List ℤ) (list : List ℕ) (samples : List ℤ) (place : Place)
       → Search (SampleIn (InList t list) samples place) (length samples) (listSearchRefusal t list samples place) (ListSearched t list samples place)
+  -- So with a screenful: where no rule of the call is broken three words a frame are written, ..
+  pub screen-writes : {t : List ℤ} {list : List ℕ} {codes : List ℤ} {frames : ℕ} {place : Place} {before after : List ℕ} {w : Written}
+      → ScreenSearched t list codes frames place before after w → screenRefusal t list codes frames (length before) ≡ none
+      → toldWritten w ≡ fine (wrote (tripleWords * frames))
+  -- .. those of frame j tell what the search of that frame alone answers, ..
+  pub screen-tells : {t : List ℤ} {list : List ℕ} {codes : List ℤ} {frames : ℕ} {place : Place} {before after : List ℕ} {w : Written} {n : ℕ}
+      → ScreenSearched t list codes frames place before after w → toldWritten w ≡ fine (wrote n)
+      → (j : ℕ) → j < frames → {r : Searched} → ListSearched t list (frameAt codes frames j) (later place j) r
+      → take tripleWords (drop (tripleWords * j) after) ≡ tripleOf (toldSearched r)
+  -- .. and no two answers of a search have the same three words.
+  pub triples-apart : (r s : Searched) → tripleOf (toldSearched r) ≡ tripleOf (toldSearched s) → r ≡ s
   -- Tree to text to tree is the same tree: the text of a sound table is written, where there is room for it, ..
   pub writes-text : {t : List ℤ} {before text : List ℕ} {r : Written} → TextWritten t before text r → tableRefusal t ≡ none
       → length (tableText t) ≤ length before → toldWritten r ≡ fine (wrote (length (tableText t)))

@@ -21,15 +21,30 @@ const LIST_POINT: usize = 14;
 
 const LIST_SEARCH: usize = 15;
 
-const MAKE_LIST: usize = 16;
+const LIST_SEARCH_FRAMES: usize = 16;
 
-const COMPARE: usize = 17;
+const MAKE_LIST: usize = 17;
 
-fn point_of(n: [i32; 3]) -> Point {
+const COMPARE: usize = 18;
+
+fn point_of(n: [i32; 5]) -> Point {
     Point {
         x: n[0],
         y: n[1],
         z: n[2],
+    }
+}
+
+// How a call that writes went, and what its buffer holds.
+fn tell_written(answer: Written, words: &[u64]) {
+    match answer {
+        Written::Wrote(n) => {
+            answers::wrote(words, n);
+        }
+        Written::Refused(r) => {
+            answers::refused(r);
+            answers::buffer(words, 0);
+        }
     }
 }
 
@@ -38,18 +53,10 @@ fn tell_list(table: &[i32], window: Window, list: &mut [u64], room: usize)
     requires { ⌜ room ≤ length (now list) ⌝ }
 {
     let answer = zone::make_list(table, window, &mut list[0..room]);
-    match answer {
-        Written::Wrote(n) => {
-            answers::wrote(list, n);
-        }
-        Written::Refused(r) => {
-            answers::refused(r);
-            answers::buffer(list, 0);
-        }
-    }
+    tell_written(answer, list);
 }
 
-fn make_list(text: &[u8], window: usize, n: [i32; 3], table: &[i32]) -> bool {
+fn make_list(text: &[u8], window: usize, n: [i32; 5], table: &[i32]) -> bool {
     let room = numbers::size_of(n[0]);
     let of = numbers::size_of(n[1]);
     let bounds = numbers::read_window(text, window);
@@ -67,11 +74,55 @@ fn make_list(text: &[u8], window: usize, n: [i32; 3], table: &[i32]) -> bool {
     true
 }
 
+fn wide(word: u32) -> u64 {
+    word as u64
+}
+
+// How a screenful went, and what the first words of its buffer hold.
+fn tell_first(answer: Written, triples: &[u32; 16], of: usize)
+    requires { ⌜ of ≤ 16 ⌝ }
+{
+    let mut words: [u64; 16] = [0; 16];
+    let mut i: usize = 0;
+    while i < 16 {
+        words[i] = wide(triples[i]);
+        i += 1;
+    }
+    tell_written(answer, &words[0..of]);
+}
+
+// Searches a screenful into the first words of a buffer, and tells how that went and what the buffer holds.
+fn tell_triples(table: &[i32], list: &[u64], codes: &[i16], n: [i32; 5], room: usize, of: usize)
+    requires { ⌜ (room ≤ of) × (of ≤ 16) ⌝ }
+{
+    let mut triples: [u32; 16] = [answers::FILL as u32; 16];
+    let frames = numbers::size_of(n[0]);
+    let place = Place {
+        first: n[1],
+        frame: n[2],
+    };
+    let answer = zone::list_search_frames(table, list, codes, frames, place, &mut triples[0..room]);
+    tell_first(answer, &triples, of);
+}
+
+fn search_frames(table: &[i32], list: &[u64], codes: &[i16], n: [i32; 5]) -> bool {
+    let room = numbers::size_of(n[3]);
+    let of = numbers::size_of(n[4]);
+    if 16 < of {
+        return false;
+    }
+    if of < room {
+        return false;
+    }
+    tell_triples(table, list, codes, n, room, of);
+    true
+}
+
 fn search(
     text: &[u8],
     call: usize,
     frame: usize,
-    place: Place,
+    n: [i32; 5],
     table: &[i32],
     list: &[u64],
 ) -> bool {
@@ -82,6 +133,13 @@ fn search(
     }
     let count = read.count;
     let samples = &codes[0..count];
+    if call == LIST_SEARCH_FRAMES {
+        return search_frames(table, list, samples, n);
+    }
+    let place = Place {
+        first: n[0],
+        frame: n[1],
+    };
     if call == TREE_SEARCH {
         answers::searched(zone::tree_search(table, samples, place));
         return true;
@@ -91,7 +149,7 @@ fn search(
 }
 
 // Asks of the list, of a frame or of both.
-fn ask_more(text: &[u8], call: usize, held: &[usize; 11], n: [i32; 3], table: &[i32]) -> bool {
+fn ask_more(text: &[u8], call: usize, held: &[usize; 11], n: [i32; 5], table: &[i32]) -> bool {
     let mut words: [u64; 256] = [0; 256];
     let read = words::read_words(text, held[crate::LIST], &mut words);
     if !read.right {
@@ -103,11 +161,7 @@ fn ask_more(text: &[u8], call: usize, held: &[usize; 11], n: [i32; 3], table: &[
         answers::located(zone::list_point(table, list, point_of(n)));
         return true;
     }
-    let place = Place {
-        first: n[0],
-        frame: n[1],
-    };
-    search(text, call, held[crate::FRAME], place, table, list)
+    search(text, call, held[crate::FRAME], n, table, list)
 }
 
 // How many numbers a call has; more than any for a word that is none.
@@ -118,13 +172,16 @@ fn numbers_of(call: usize) -> usize {
     if (call == TREE_POINT) | (call == LIST_POINT) {
         return 3;
     }
+    if call == LIST_SEARCH_FRAMES {
+        return 5;
+    }
     if call <= MAKE_LIST {
         return 2;
     }
-    4
+    6
 }
 
-fn tell(text: &[u8], call: usize, held: &[usize; 11], n: [i32; 3], table: &[i32]) -> bool {
+fn tell(text: &[u8], call: usize, held: &[usize; 11], n: [i32; 5], table: &[i32]) -> bool {
     if call == CHECK_TABLE {
         answers::checked(zone::check_table(table));
         return true;
@@ -149,7 +206,7 @@ pub fn ask(text: &[u8], word: Word, held: &[usize; 11], table: &[i32]) -> bool {
         };
         return comparing::compare(text, word.next, axes, table);
     }
-    let mut n: [i32; 3] = [0; 3];
+    let mut n: [i32; 5] = [0; 5];
     let read = numbers::read_numbers(text, word.next, &mut n, 0);
     if !read.right | (read.count != numbers_of(word.place)) {
         return false;

@@ -1,7 +1,7 @@
--- Answers that look right and are not. Each theorem speaks of one good input, at which the rules refuse nothing, and of every answer that could
--- go with the impostor's error there: none of them meets the call's record. Beside each input stands the outcome that does (`right-..`).
+-- Answers that look right and are not. Each theorem speaks of one good input, at which the rules do not refuse the call, and of every answer that
+-- could go with the impostor's error there: none of them meets the call's record. Beside each input stands the outcome that does (`right-..`).
 -- Assumes nothing.
-use Prim.Native.Nat.{ℕ, _^_}
+use Prim.Native.Nat.{ℕ, _+_, _^_}
 use native.Mathlib.Omega.{arith}
 use mathlib.Core.List.{List, [], _∷_, _++_, map, flatMap, head-eq-of-cons-eq}
 use mathlib.Core.Path.{_≡_, refl, sym, ap, _∙_}
@@ -39,11 +39,11 @@ use Rattle.rules.specs.Text.{TextRow, decimalIn}
 use Rattle.rules.specs.TextForm.{spelt}
 use Rattle.rules.specs.Outcome.{over}
 use Rattle.rules.specs.TreeCalls.{TableChecked, TreeLocated, TreeSearched}
-use Rattle.rules.specs.ListCalls.{zoneList, ListMade, acceptRefusal, ListLocated, ListSearched}
+use Rattle.rules.specs.ListCalls.{zoneList, ListMade, acceptRefusal, ListLocated, ListSearched, screenTriples, ScreenSearched}
 use Rattle.rules.specs.TextCalls.{TextRead, tableText, TextWritten}
 use Rattle.rules.proofs.Zones.{nought, box, union, inter, diff, q, columnsOf, at}
 use Rattle.rules.proofs.Settled.{checked-settled, tree-located-settled, tree-searched-settled, list-made-settled}
-use Rattle.rules.proofs.Settled.{list-located-settled, list-searched-settled, text-read-settled, text-written-settled}
+use Rattle.rules.proofs.Settled.{list-located-settled, list-searched-settled, screen-searched-settled, text-read-settled, text-written-settled}
 
 -- ---- the right outcomes at one input of each call: zone Q in columns -100..100, and the text of one box
 
@@ -90,6 +90,20 @@ right-list-point = record { answer = refl }
 pub right-list-search : ListSearched q qList three from19 (searched.Hit 1 2)
 unfolding tableRefusal listRefusal acceptRefusal insideProduct insideList firstInside insideCount from allOf anyOf countIf findIf firstOf selected flatMap
 right-list-search = record { answer = refl }
+
+-- two frames of these columns, of which Q has points in frame 0 alone
+abbrev six : List ℤ
+six = three ++ three
+
+abbrev inFrame : ℤ → Place
+inFrame number = record { first = pos 19; frame = number }
+
+abbrev tripleRoom : List ℕ
+tripleRoom = replicate 7 7
+
+pub right-screen : ScreenSearched q qList six 2 (inFrame (negsuc 0)) tripleRoom (0 ∷ 0 ∷ 0 ∷ 1 ∷ 1 ∷ 2 ∷ 7 ∷ []) (written.Wrote 6)
+unfolding tableRefusal listRefusal acceptRefusal insideProduct insideList firstInside insideCount screenTriples from allOf anyOf countIf findIf firstOf selected flatMap
+right-screen = record { answer = refl; buffer = refl }
 
 abbrev oneBox : List ℤ
 oneBox = box nought (pos 9)
@@ -141,6 +155,9 @@ refuses-list-points why h = let e = list-located-settled h right-list-point in n
 
 pub refuses-list-searches : (why : Refusal) → ListSearched q qList three from19 (searched.Refused why) → ⊥
 refuses-list-searches why h = let e = list-searched-settled h right-list-search in never (cc)
+
+pub refuses-screens : (why : Refusal) {after : List ℕ} → ScreenSearched q qList six 2 (inFrame (negsuc 0)) tripleRoom after (written.Refused why) → ⊥
+refuses-screens why h = let e = screen-searched-settled h right-screen .0 in never (cc)
 
 pub refuses-texts : (why : Refusal) {after : List ℤ} → TextRead boxText tableRoom after (written.Refused why) → ⊥
 refuses-texts why h = let e = text-read-settled h right-read .0 in never (cc)
@@ -201,11 +218,53 @@ list-invented-count first count other h = let e = list-searched-settled h right-
 pub list-untouched : (r : Written) → ListMade q window room room r → ⊥
 list-untouched r h = let e = list-made-settled h right-make .1 in never (cc)
 
+pub screen-untouched : (r : Written) → ScreenSearched q qList six 2 (inFrame (negsuc 0)) tripleRoom tripleRoom r → ⊥
+screen-untouched r h = let e : _≡_ {A = ℕ} 7 0 = head-eq-of-cons-eq (screen-searched-settled h right-screen .1) in omega arith
+
 pub text-untouched : (r : Written) → TextWritten oneBox textRoom textRoom r → ⊥
 text-untouched r h = let e : _≡_ {A = ℕ} 7 122 = head-eq-of-cons-eq (text-written-settled h right-write .1) in omega arith
 
 pub table-untouched : (r : Written) → TextRead boxText tableRoom tableRoom r → ⊥
 table-untouched r h = let e = text-read-settled h right-read .1 in never (cc)
+
+-- ---- of a screenful: one that always says clear; one whose frame number stands still, so that frames of the same codes get the same words; one that
+-- counts positions over the frames
+
+module _ {after : List ℕ} {r : Written} (h : ScreenSearched q qList six 2 (inFrame (negsuc 0)) tripleRoom after r) where
+  -- what stands in it, by the outcome that is right
+  at-word : (i : ℕ) {n : ℕ} → word after i ≡ n → word (0 ∷ 0 ∷ 0 ∷ 1 ∷ 1 ∷ 2 ∷ 7 ∷ []) i ≡ n
+  at-word i is = ap (λ (words : List ℕ). word words i) (sym (screen-searched-settled h right-screen .1)) ∙ is
+
+  pub screen-always-clear : word after 3 ≡ 0 → ⊥
+  screen-always-clear is = let e : _≡_ {A = ℕ} 1 0 = at-word 3 is in omega arith
+
+  pub number-stands-still : word after 3 ≡ word after 0 → ⊥
+  number-stands-still is = let e : _≡_ {A = ℕ} 1 0 = at-word 3 is ∙ sym (at-word 0 refl) in omega arith
+
+  pub positions-over-the-frames : word after 4 ≡ length three + 1 → ⊥
+  positions-over-the-frames is = let e : _≡_ {A = ℕ} 1 4 = at-word 4 is in omega arith
+
+-- ---- one that forgets the hundred of a refused frame, and one that stops there: frame 1048576 does not exist, and neither does frame -1048577
+
+pub right-last-frame : ScreenSearched q qList six 2 (inFrame (pos 1048575)) tripleRoom (0 ∷ 0 ∷ 0 ∷ 112 ∷ 2 ∷ 0 ∷ 7 ∷ []) (written.Wrote 6)
+unfolding tableRefusal listRefusal acceptRefusal insideProduct insideList firstInside insideCount screenTriples from allOf anyOf countIf findIf firstOf selected flatMap
+right-last-frame = record { answer = refl; buffer = refl }
+
+pub hundred-forgotten : {after : List ℕ} {r : Written} → ScreenSearched q qList six 2 (inFrame (pos 1048575)) tripleRoom after r → word after 3 ≡ 12 → ⊥
+hundred-forgotten h is =
+    let e : _≡_ {A = ℕ} 112 12 = ap (λ (words : List ℕ). word words 3) (sym (screen-searched-settled h right-last-frame .1)) ∙ is in omega arith
+
+pub right-first-frame : ScreenSearched q qList six 2 (inFrame (negsuc 1048576)) tripleRoom (112 ∷ 2 ∷ 0 ∷ 0 ∷ 0 ∷ 0 ∷ 7 ∷ []) (written.Wrote 6)
+unfolding tableRefusal listRefusal acceptRefusal insideProduct insideList firstInside insideCount screenTriples from allOf anyOf countIf findIf firstOf selected flatMap
+right-first-frame = record { answer = refl; buffer = refl }
+
+-- by leaving the words of the frames after it, or by refusing the whole call
+pub stops-at-a-refused-frame : (r : Written) → ScreenSearched q qList six 2 (inFrame (negsuc 1048576)) tripleRoom (over (112 ∷ 2 ∷ 0 ∷ []) tripleRoom) r → ⊥
+stops-at-a-refused-frame r h =
+    let e : _≡_ {A = ℕ} 7 0 = ap (λ (words : List ℕ). word words 3) (screen-searched-settled h right-first-frame .1) in omega arith
+
+pub refused-with-its-frame : (why : Refusal) {after : List ℕ} → ScreenSearched q qList six 2 (inFrame (negsuc 1048576)) tripleRoom after (written.Refused why) → ⊥
+refused-with-its-frame why h = let e = screen-searched-settled h right-first-frame .0 in never (cc)
 
 -- ---- one that invents the product count, and one whose list is always empty: where there are two products, no other number does
 

@@ -1,6 +1,6 @@
 -- Every record settles its call: any two outcomes that meet it are the same, and one that is a refusal leaves the lent buffer as it was.
 -- Assumes nothing.
-use Prim.Native.Nat.{ℕ, _≤_, _<_}
+use Prim.Native.Nat.{ℕ, _*_, _≤_, _<_}
 use native.Mathlib.Omega.{arith}
 use native.Mathlib.Decide.{decLt}
 use mathlib.Core.List.{List, [], _∷_}
@@ -29,7 +29,8 @@ use Rattle.rules.specs.Outcome.{over, leave}
 use Rattle.rules.specs.Products.{products}
 use Rattle.rules.specs.Tree.{treeOf}
 use Rattle.rules.specs.TreeCalls.{TableChecked, TreeLocated, TreeSearched}
-use Rattle.rules.specs.ListCalls.{zoneList, makeRefusal, ListMade, ListLocated, ListSearched}
+use Rattle.rules.specs.Screen.{tripleWords}
+use Rattle.rules.specs.ListCalls.{zoneList, makeRefusal, ListMade, ListLocated, ListSearched, screenTriples, screenRefusal, ScreenSearched}
 use Rattle.rules.specs.TextCalls.{tableRead, formRefusal, readRefusal, TextRead, tableText, writeRefusal, TextWritten}
 use Rattle.rules.specs.Boxes.{fullRange}
 use Rattle.rules.specs.Listing.{listingRoom, printed, ZoneListed}
@@ -61,6 +62,10 @@ list-made-settled {r = r} {s = s} p q = (written-once r s (p .answer ∙ sym (q 
 
 pub text-written-settled : {t : List ℤ} {before a b : List ℕ} {r s : Written} → TextWritten t before a r → TextWritten t before b s → (r ≡ s) × (a ≡ b)
 text-written-settled {r = r} {s = s} p q = (written-once r s (p .answer ∙ sym (q .answer)), p .buffer ∙ sym (q .buffer))
+
+pub screen-searched-settled : {t : List ℤ} {list : List ℕ} {codes : List ℤ} {frames : ℕ} {place : Place} {before a b : List ℕ} {r s : Written}
+    → ScreenSearched t list codes frames place before a r → ScreenSearched t list codes frames place before b s → (r ≡ s) × (a ≡ b)
+screen-searched-settled {r = r} {s = s} p q = (written-once r s (p .answer ∙ sym (q .answer)), p .buffer ∙ sym (q .buffer))
 
 -- ---- a text stands in one way only
 
@@ -118,14 +123,19 @@ zone-listed-settled {before = before} p q =
 
 -- ---- a refusal leaves the buffer as it was
 
-keeps : {A : Type 0} (x : Option Refusal) (result before : List A) {r : Refusal} → refused r ≡ tell x (wrote (length result)) → leave x result before ≡ before
-keeps x result before e = ap (λ (y : Option Refusal). leave y result before) (refused-some x (length result) e)
+keeps : {A : Type 0} (x : Option Refusal) (n : ℕ) (result before : List A) {r : Refusal} → refused r ≡ tell x (wrote n) → leave x result before ≡ before
+keeps x n result before e = ap (λ (y : Option Refusal). leave y result before) (refused-some x n e)
 
 pub list-made-keeps : {t : List ℤ} {w : Window} {before after : List ℕ} {r : Refusal} → ListMade t w before after (Refused r) → after ≡ before
-list-made-keeps {t} {w} {before} p = p .buffer ∙ keeps (makeRefusal t w (length before)) (zoneList t w) before (p .answer)
+list-made-keeps {t} {w} {before} p = p .buffer ∙ keeps (makeRefusal t w (length before)) (length (zoneList t w)) (zoneList t w) before (p .answer)
 
 pub text-read-keeps : {text : List ℕ} {before after : List ℤ} {r : Refusal} → TextRead text before after (Refused r) → after ≡ before
-text-read-keeps {before = before} p = p .buffer ∙ keeps (readRefusal (p .form) (length before)) (tableRead (p .form)) before (p .answer)
+text-read-keeps {before = before} p = p .buffer ∙ keeps (readRefusal (p .form) (length before)) (length (tableRead (p .form))) (tableRead (p .form)) before (p .answer)
 
 pub text-written-keeps : {t : List ℤ} {before after : List ℕ} {r : Refusal} → TextWritten t before after (Refused r) → after ≡ before
-text-written-keeps {t} {before} p = p .buffer ∙ keeps (writeRefusal t (length before)) (tableText t) before (p .answer)
+text-written-keeps {t} {before} p = p .buffer ∙ keeps (writeRefusal t (length before)) (length (tableText t)) (tableText t) before (p .answer)
+
+pub screen-searched-keeps : {t : List ℤ} {list : List ℕ} {codes : List ℤ} {frames : ℕ} {place : Place} {before after : List ℕ} {r : Refusal}
+    → ScreenSearched t list codes frames place before after (Refused r) → after ≡ before
+screen-searched-keeps {t} {list} {codes} {frames} {place} {before} p =
+    p .buffer ∙ keeps (screenRefusal t list codes frames (length before)) (tripleWords * frames) (screenTriples t list codes frames place) before (p .answer)

@@ -1,6 +1,8 @@
--- An answer is what it tells: no two answers tell the same, and the answer of a call that writes tells what it had to refuse. Assumes nothing.
+-- An answer is what it tells: no two answers tell the same, in three words too, and the answer of a call that writes tells what it had to refuse.
+-- Assumes nothing.
 use Prim.Native.Nat.{ℕ}
 use native.Mathlib.Omega.{arith}
+use mathlib.Core.List.{List, _∷_, head-eq-of-cons-eq, tail-eq-of-cons-eq}
 use mathlib.Core.Option.{Option, none, some}
 use mathlib.Core.Path.{_≡_, refl, sym, ap}
 use Rattle.rules.specs.declared.Refusal.{Refusal}
@@ -12,6 +14,7 @@ use Rattle.rules.specs.declared.Searched.{Searched}
 use Rattle.rules.specs.declared.Searched.the-variants as searched
 use Rattle.rules.specs.declared.Written.{Written}
 use Rattle.rules.specs.declared.Written.the-variants as written
+use Rattle.rules.specs.Screen.{tripleOf}
 use Rattle.rules.specs.Told.{Told, wrote, fine, refused, tell, toldChecked, toldLocated, toldSearched, toldWritten}
 
 tale : {a b : Told} → a ≡ b → a .tale ≡ b .tale
@@ -51,6 +54,27 @@ searched-once (searched.Hit f c) (searched.Refused q) e = let t = tale e in cc
 searched-once (searched.Refused p) searched.Clear e = let t = tale e in cc
 searched-once (searched.Refused p) (searched.Hit g d) e = let t = tale e in cc
 searched-once (searched.Refused p) (searched.Refused q) e = ap searched.Refused (refusal-once p q e)
+
+-- the words of two answers, from the first on
+module _ {a b : ℕ} {xs ys : List ℕ} (e : a ∷ xs ≡ b ∷ ys) where
+  here : a ≡ b
+  here = head-eq-of-cons-eq e
+
+  after : xs ≡ ys
+  after = tail-eq-of-cons-eq e
+
+pub triple-once : (a b : Searched) → tripleOf (toldSearched a) ≡ tripleOf (toldSearched b) → a ≡ b
+triple-once searched.Clear searched.Clear e = refl
+triple-once searched.Clear (searched.Hit g d) e = absurd (omega (arith, here e))
+triple-once searched.Clear (searched.Refused q) e = absurd (omega (arith, here e))
+triple-once (searched.Hit f c) searched.Clear e = absurd (omega (arith, here e))
+triple-once (searched.Hit f c) (searched.Hit g d) e = λ i. searched.Hit (here (after e) i) (here (after (after e)) i)
+triple-once (searched.Hit f c) (searched.Refused q) e = absurd (omega (arith, here e))
+triple-once (searched.Refused p) searched.Clear e = absurd (omega (arith, here e))
+triple-once (searched.Refused p) (searched.Hit g d) e = absurd (omega (arith, here e))
+triple-once (searched.Refused p) (searched.Refused q) e =
+    let n : p .number ≡ q .number = omega (arith, here e) in
+    λ i. searched.Refused (record { number = n i; value = here (after e) i })
 
 pub written-once : (a b : Written) → toldWritten a ≡ toldWritten b → a ≡ b
 written-once (written.Wrote m) (written.Wrote n) e = let t = tale e in cc

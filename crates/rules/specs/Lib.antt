@@ -16,6 +16,7 @@ pub mod Frame
 pub mod Text
 pub mod TextForm
 pub mod Told
+pub mod Screen
 pub mod Outcome
 pub mod TreeCalls
 pub mod ListCalls

@@ -1,14 +1,14 @@
 -- Section 13 of docs/RULES.md: what making a list promises, and what the calls that answer from a list promise.
-use Prim.Native.Nat.{ℕ, _+_}
+use Prim.Native.Nat.{ℕ, _+_, _*_}
 use mathlib.Core.Bool.{_&&_}
 use mathlib.Core.Path.{_≡_}
-use mathlib.Core.List.{List, [], _∷_, _++_}
+use mathlib.Core.List.{List, [], _∷_, _++_, flatMap}
 use mathlib.Core.Option.{Option}
 use lib.Dec.{leb}
 use lib.IntN.{ℤ}
 use lib.ListN.{length}
 use lib.Signed.{leZ}
-use Rattle.ground.specs.Lists.{firstOf}
+use Rattle.ground.specs.Lists.{below, firstOf}
 use Rattle.rules.specs.declared.Axis.{Axis}
 use Rattle.rules.specs.declared.Axis.the-variants.{Column, Code, Frame}
 use Rattle.rules.specs.declared.Located.{Located}
@@ -29,7 +29,8 @@ use Rattle.rules.specs.ListFaults.{listRefusal, primitivesRefusal}
 use Rattle.rules.specs.ListInside.{insideList}
 use Rattle.rules.specs.Frame.{frameRefusal, leavesRefusal, firstInside, insideCount}
 use Rattle.rules.specs.Refusals.{refuseUnless, roomRefusal}
-use Rattle.rules.specs.Told.{wrote, tell, toldLocated, toldSearched, toldWritten}
+use Rattle.rules.specs.Told.{Told, wrote, tell, toldLocated, toldSearched, toldWritten}
+use Rattle.rules.specs.Screen.{framesRefusal, frameAt, later, tripleWords, tripleOf}
 use Rattle.rules.specs.Outcome.{leave}
 use Rattle.rules.specs.TreeCalls.{pointRefusal, pointTale, searchTale}
 
@@ -82,8 +83,25 @@ abbrev pub listSearchRefusal : List ℤ → List ℕ → List ℤ → Place → 
 listSearchRefusal t list samples place =
     firstOf (acceptRefusal t list ∷ frameRefusal samples place ∷ leavesRefusal (listWindow list) samples place ∷ [])
 
+abbrev pub listSearchTold : List ℤ → List ℕ → List ℤ → Place → Told
+listSearchTold t list samples place =
+    let isInside = insideList (primitives t) list in
+    tell (listSearchRefusal t list samples place) (searchTale (firstInside isInside samples place) (insideCount isInside samples place))
+
 pub record ListSearched (t : List ℤ) (list : List ℕ) (samples : List ℤ) (place : Place) (r : Searched) : Type 0 where
-  pub answer : toldSearched r
-      ≡ tell
-      (listSearchRefusal t list samples place)
-      (searchTale (firstInside (insideList (primitives t) list) samples place) (insideCount (insideList (primitives t) list) samples place))
+  pub answer : toldSearched r ≡ listSearchTold t list samples place
+
+-- the search of a screenful over a list: those, 12 with 0, 8. The words of frame j tell what the search of that frame tells
+abbrev pub frameTriple : List ℤ → List ℕ → List ℤ → ℕ → Place → ℕ → List ℕ
+frameTriple t list codes frames place j = tripleOf (listSearchTold t list (frameAt codes frames j) (later place j))
+
+unfoldable pub screenTriples : List ℤ → List ℕ → List ℤ → ℕ → Place → List ℕ
+screenTriples t list codes frames place = flatMap (frameTriple t list codes frames place) (below frames)
+
+abbrev pub screenRefusal : List ℤ → List ℕ → List ℤ → ℕ → ℕ → Option Refusal
+screenRefusal t list codes frames room =
+    firstOf (acceptRefusal t list ∷ framesRefusal codes frames ∷ roomRefusal (tripleWords * frames) room ∷ [])
+
+pub record ScreenSearched (t : List ℤ) (list : List ℕ) (codes : List ℤ) (frames : ℕ) (place : Place) (before after : List ℕ) (r : Written) : Type 0 where
+  pub answer : toldWritten r ≡ tell (screenRefusal t list codes frames (length before)) (wrote (tripleWords * frames))
+  pub buffer : after ≡ leave (screenRefusal t list codes frames (length before)) (screenTriples t list codes frames place) before

@@ -41,10 +41,14 @@ pub const PRODUCT_WORDS: usize = 2;
 
 pub const MOST_PRODUCTS: usize = 65536;
 
-// The choices of a zone of which a list is made, and the samples of a frame.
+// The choices of a zone of which a list is made, the samples of a frame, the frames of a screenful, and the words that tell of one of them.
 pub const MOST_CHOICES: u64 = 65536;
 
 pub const MOST_SAMPLES: usize = 65536;
+
+pub const MOST_FRAMES: usize = 500;
+
+pub const TRIPLE_WORDS: usize = 3;
 
 pub const ROW_WORDS: usize = 12;
 

@@ -6,7 +6,7 @@ use rules::Point;
 use rules::Searched;
 use rules::Window;
 use rules::Written;
-ghost use Rattle.rules.specs.ListCalls.{ListMade, ListLocated, ListSearched};
+ghost use Rattle.rules.specs.ListCalls.{ListMade, ListLocated, ListSearched, ScreenSearched};
 ghost use Rattle.rules.specs.TextCalls.{TextRead, TextWritten};
 ghost use Rattle.rules.specs.TreeCalls.{TableChecked, TreeLocated, TreeSearched};
 
@@ -53,6 +53,24 @@ pub fn list_search(table: &[i32], list: &[u64], samples: &[i16], place: Place) -
     ensures { λ r. ⌜ ListSearched (now (table .entry)) (now (list .entry)) (now (samples .entry)) place r ⌝ }
 {
     answer::list_search(table, list, samples, place)
+}
+
+// Searches up to 500 frames of one length by a list, each as list_search does. They lie end to end in `codes` and all start at place.first; the first
+// has the number place.frame, each further one a number greater by one. Writes three words a frame and says how many words that took; the words
+// beyond stay: 0 for clear, 1 for a hit, or 100 and the number of the frame's own refusal, which stops no other frame; then the first position, or
+// the refusal's value; then the number of inside samples. Refusals of the whole call: the table's; 9 and 11 for the list; 12 with 0 where there is no
+// frame, there are over 500, or the codes do not divide evenly; 8 with the words needed.
+pub fn list_search_frames(
+    table: &[i32],
+    list: &[u64],
+    codes: &[i16],
+    frames: usize,
+    place: Place,
+    triples: &mut [u32],
+) -> Written
+    ensures { λ r. ⌜ ScreenSearched (now (table .entry)) (now (list .entry)) (now (codes .entry)) frames place (now (triples .entry)) (now (triples .exit)) r ⌝ }
+{
+    screen::list_search_frames(table, list, codes, frames, place, triples)
 }
 
 // Reads zone text into a table and says how many words it took; the words beyond stay. Refusals: 13 with the first faulty line, or with 0 where

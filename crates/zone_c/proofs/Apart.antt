@@ -21,7 +21,7 @@ use Rattle.rules.specs.declared.Written.{Written}
 use Rattle.rules.specs.declared.Written.the-variants as written
 use Rattle.rules.specs.Told.{Told, refused, toldChecked, toldLocated, toldSearched, toldWritten}
 use Rattle.rules.specs.TreeCalls.{TableChecked, TreeLocated, TreeSearched}
-use Rattle.rules.specs.ListCalls.{ListMade, ListLocated, ListSearched}
+use Rattle.rules.specs.ListCalls.{ListMade, ListLocated, ListSearched, ScreenSearched}
 use Rattle.rules.specs.TextCalls.{TextRead, TextWritten}
 use Rattle.promises.specs.Possible.{Possible}
 use Rattle.promises.proofs.Possible as law
@@ -87,6 +87,10 @@ list-point-readable t list p = readable located-back (λ r. law.list-point-possi
 pub list-search-readable : (t : List ℤ) (list : List ℕ) (samples : List ℤ) (place : Place)
     → Readable toldSearched readSearched (ListSearched t list samples place)
 list-search-readable t list samples place = readable searched-back (λ r. law.list-search-possible)
+
+pub list-search-frames-readable : (t : List ℤ) (list : List ℕ) (codes : List ℤ) (frames : ℕ) (place : Place) (before after : List ℕ)
+    → Readable toldWritten readWritten (ScreenSearched t list codes frames place before after)
+list-search-frames-readable t list codes frames place before after = readable written-back (λ r. law.list-search-frames-possible)
 
 pub read-text-readable : (text : List ℕ) (before after : List ℤ) → Readable toldWritten readWritten (TextRead text before after)
 read-text-readable text before after = readable written-back (λ r. law.read-text-possible)

@@ -8,7 +8,7 @@ use Rattle.rules.specs.declared.Point.{Point}
 use Rattle.rules.specs.declared.Window.{Window}
 use Rattle.rules.specs.Told.{Told, toldChecked, toldLocated, toldSearched, toldWritten}
 use Rattle.rules.specs.TreeCalls.{TableChecked, TreeLocated, TreeSearched}
-use Rattle.rules.specs.ListCalls.{ListMade, ListLocated, ListSearched}
+use Rattle.rules.specs.ListCalls.{ListMade, ListLocated, ListSearched, ScreenSearched}
 use Rattle.rules.specs.TextCalls.{TextRead, TextWritten}
 use Rattle.rules.proofs.Settled as outcome
 use Rattle.answer_c.specs.declared.Answer.{Answer}
@@ -42,6 +42,11 @@ list-search-settled p q = same-answer p q (outcome.list-searched-settled (p .kep
 pub make-list-settled : {t : List ℤ} {w : Window} {before m n : List ℕ} {a b : Answer}
     → Answered toldWritten (ListMade t w before m) a → Answered toldWritten (ListMade t w before n) b → (a ≡ b) × (m ≡ n)
 make-list-settled p q = let once = outcome.list-made-settled (p .kept) (q .kept) in (same-answer p q (once .0), once .1)
+
+pub list-search-frames-settled : {t : List ℤ} {list : List ℕ} {codes : List ℤ} {frames : ℕ} {place : Place} {before m n : List ℕ} {a b : Answer}
+    → Answered toldWritten (ScreenSearched t list codes frames place before m) a → Answered toldWritten (ScreenSearched t list codes frames place before n) b
+    → (a ≡ b) × (m ≡ n)
+list-search-frames-settled p q = let once = outcome.screen-searched-settled (p .kept) (q .kept) in (same-answer p q (once .0), once .1)
 
 pub read-text-settled : {text : List ℕ} {before m n : List ℤ} {a b : Answer}
     → Answered toldWritten (TextRead text before m) a → Answered toldWritten (TextRead text before n) b → (a ≡ b) × (m ≡ n)

@@ -5,7 +5,7 @@ use rules::Point;
 use rules::Window;
 ghost use Rattle.rules.specs.Told.{toldChecked, toldLocated, toldSearched, toldWritten};
 ghost use Rattle.rules.specs.TreeCalls.{TableChecked, TreeLocated, TreeSearched};
-ghost use Rattle.rules.specs.ListCalls.{ListMade, ListLocated, ListSearched};
+ghost use Rattle.rules.specs.ListCalls.{ListMade, ListLocated, ListSearched, ScreenSearched};
 ghost use Rattle.rules.specs.TextCalls.{TextRead, TextWritten};
 ghost use Rattle.zone_c.specs.Answered.{Answered};
 ghost use Rattle.zone_c.specs.Lent.{point, place};
@@ -73,6 +73,29 @@ pub extern "C" fn lampholly_list_search(
     ensures { λ r. ⌜ Answered toldSearched (ListSearched (now (table .entry)) (now (list .entry)) (now (samples .entry)) (place first frame)) r ⌝ }
 {
     answer_c::of_searched(zone::list_search(table, list, samples, Place { first, frame }))
+}
+
+// zone::list_search_frames: three words for each frame of a screenful, by a list.
+#[no_mangle]
+pub extern "C" fn lampholly_list_search_frames(
+    table: &[i32],
+    list: &[u64],
+    codes: &[i16],
+    frames: usize,
+    first: i32,
+    frame: i32,
+    triples: &mut [u32],
+) -> Answer
+    ensures { λ r. ⌜ Answered toldWritten (ScreenSearched (now (table .entry)) (now (list .entry)) (now (codes .entry)) frames (place first frame) (now (triples .entry)) (now (triples .exit))) r ⌝ }
+{
+    answer_c::of_written(zone::list_search_frames(
+        table,
+        list,
+        codes,
+        frames,
+        Place { first, frame },
+        triples,
+    ))
 }
 
 // zone::read_text: reads zone text into a table.

@@ -1,10 +1,11 @@
-//! Lampholly from Rust: the eight calls of `include/lampholly.h`, declared once and wrapped. Slices go in, an enum comes out; its
+//! Lampholly from Rust: the nine calls of `include/lampholly.h`, declared once and wrapped. Slices go in, an enum comes out; its
 //! cases are those of the library's own answers. The header says what each call does and when it refuses.
 
-/// The words or bytes that always suffice for a table, a list and a text.
+/// The words or bytes that always suffice for a table, a list, a text and the triples of a screenful.
 pub const TABLE_WORDS: usize = 1524;
 pub const LIST_WORDS: usize = 131_080;
 pub const TEXT_BYTES: usize = 16_384;
+pub const TRIPLE_WORDS: usize = 1500;
 
 /// Both bounds of an axis belong to the window.
 #[repr(C)]
@@ -38,7 +39,7 @@ pub struct Point {
     pub z: i32,
 }
 
-/// Where a frame stands: the column of its first sample, and its number.
+/// Where a frame stands: the column of its first sample, and its number. Of a screenful, it is the place of the first frame.
 #[derive(Clone, Copy, Debug, PartialEq, Eq)]
 pub struct Place {
     pub first: i32,
@@ -148,6 +149,48 @@ pub fn list_search(table: &[i32], list: &[u64], codes: &[i16], place: Place) -> 
             first,
             frame,
         )
+    })
+}
+
+/// Searches frames of one length, laid end to end in `codes`, and writes three words for each; [`told`] reads them. The list
+/// belongs to its table, as for [`list_point`].
+pub fn list_search_frames(
+    table: &[i32],
+    list: &[u64],
+    codes: &[i16],
+    frames: usize,
+    place: Place,
+    triples: &mut [u32],
+) -> Written {
+    written(unsafe {
+        calls::lampholly_list_search_frames(
+            table.as_ptr(),
+            table.len(),
+            list.as_ptr(),
+            list.len(),
+            codes.as_ptr(),
+            codes.len(),
+            frames,
+            place.first,
+            place.frame,
+            triples.as_mut_ptr(),
+            triples.len(),
+        )
+    })
+}
+
+/// What the words that [`list_search_frames`] wrote tell, frame by frame.
+pub fn told(triples: &[u32]) -> impl Iterator<Item = Searched> + '_ {
+    triples.chunks_exact(3).map(|triple| match triple[0] {
+        0 => Searched::Clear,
+        1 => Searched::Hit {
+            first: triple[1] as usize,
+            count: triple[2] as usize,
+        },
+        raised => Searched::Refused(Refusal {
+            number: u64::from(raised - 100),
+            value: u64::from(triple[1]),
+        }),
     })
 }
 
@@ -265,6 +308,19 @@ mod calls {
             text: *mut u8,
             room: usize,
         ) -> Answer;
+        pub fn lampholly_list_search_frames(
+            table: *const i32,
+            words: usize,
+            list: *const u64,
+            list_words: usize,
+            codes: *const i16,
+            samples: usize,
+            frames: usize,
+            first: i32,
+            frame: i32,
+            triples: *mut u32,
+            room: usize,
+        ) -> Answer;
     }
 }
 
@@ -281,8 +337,31 @@ mod tests {
         table
     }
 
+    fn q_list() -> [u64; 12] {
+        let mut list = [0; 12];
+        let window = Window {
+            xlo: -100,
+            xhi: 100,
+            ..Window::FULL
+        };
+        assert_eq!(make_list(&q(), window, &mut list), Written::Wrote(12));
+        list
+    }
+
     fn refused(number: u64, value: u64) -> Refusal {
         Refusal { number, value }
+    }
+
+    fn screenful(codes: &[i16], frames: usize, place: Place, triples: &mut [u32]) -> Written {
+        list_search_frames(&q(), &q_list(), codes, frames, place, triples)
+    }
+
+    /// The triples of two frames, and a word more, which stays 9.
+    fn two_frames(codes: &[i16], first: i32, frame: i32) -> [u32; 7] {
+        let mut triples = [9; 7];
+        let answer = screenful(codes, 2, Place { first, frame }, &mut triples);
+        assert_eq!(answer, Written::Wrote(6));
+        triples
     }
 
     #[test]
@@ -298,13 +377,7 @@ mod tests {
 
     #[test]
     fn answers_by_tree_and_by_list() {
-        let (table, mut list) = (q(), [0; 12]);
-        let window = Window {
-            xlo: -100,
-            xhi: 100,
-            ..Window::FULL
-        };
-        make_list(&table, window, &mut list);
+        let (table, list) = (q(), q_list());
         let zeros = [0; 30];
         let hit = Searched::Hit { first: 8, count: 7 };
         assert_eq!(tree_search(&table, &zeros, START), hit);
@@ -345,6 +418,31 @@ mod tests {
             list_point(&table, &list, Point { x: 101, y: 0, z: 0 }),
             Located::Refused(refused(10, 0))
         );
+    }
+
+    #[test]
+    fn searches_a_screenful() {
+        let zeros = [0; 60];
+        assert_eq!(two_frames(&zeros, 0, 0), [1, 8, 7, 0, 0, 0, 9]);
+        assert_eq!(two_frames(&zeros, 80, 0), [110, 21, 0, 110, 21, 0, 9]);
+        assert_eq!(two_frames(&zeros, 0, 1_048_575), [0, 0, 0, 112, 2, 0, 9]);
+        assert_eq!(two_frames(&zeros, 0, i32::MAX), [112, 2, 0, 112, 2, 0, 9]);
+        assert_eq!(two_frames(&[], 0, 0), [112, 0, 0, 112, 0, 0, 9]);
+        let hit = Searched::Hit { first: 8, count: 7 };
+        let out_of_window = Searched::Refused(refused(10, 21));
+        assert!(told(&[1, 8, 7, 0, 0, 0, 110, 21, 0]).eq([hit, Searched::Clear, out_of_window]));
+    }
+
+    #[test]
+    fn refuses_a_screenful() {
+        let (zeros, mut triples) = ([0; 61], [9; TRIPLE_WORDS]);
+        for (samples, frames) in [(60, 0), (60, 501), (0, 501), (61, 2)] {
+            let answer = screenful(&zeros[..samples], frames, START, &mut triples);
+            assert_eq!(answer, Written::Refused(refused(12, 0)));
+        }
+        let answer = screenful(&zeros[..60], 2, START, &mut triples[..5]);
+        assert_eq!(answer, Written::Refused(refused(8, 6)));
+        assert_eq!(triples, [9; TRIPLE_WORDS]);
     }
 
     #[test]

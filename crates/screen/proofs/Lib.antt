@@ -1,0 +1,4 @@
+pub mod Places
+pub mod Triples
+pub mod Frames
+pub mod Calls
