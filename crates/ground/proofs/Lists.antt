@@ -24,25 +24,15 @@ module _ {A : Type 0} where
   all-map P Q f [] h = tt
   all-map P Q f (x ∷ xs) h = (f x (h .0), all-map P Q f xs (h .1))
 
-  -- what a search finds passes its test; where no element does, it finds none
-  pub found : (test : A → Bool) (xs : List A) {x : A} → findIf test xs ≡ some x → test x ≡ true
+  -- what a search finds has what every element has that passes the test; where none passes, it finds none
+  pub found : (P : A → Type 0) (test : A → Bool) (xs : List A) → All (λ x. test x ≡ true → P x) xs → {x : A} → findIf test xs ≡ some x → P x
   unfolding findIf
-  found test [] e = cc
-  found test (y ∷ ys) {x} e = go (test y) refl e (found test ys)
+  found P test [] all e = let z : _≡_ {A = ℕ} 0 1 = cc in absurd (omega arith)
+  found P test (y ∷ ys) all {x} e = go (test y) refl e (found P test ys (all .1))
     where
-      go : (b : Bool) → test y ≡ b → (if b then some y else findIf test ys) ≡ some x → (findIf test ys ≡ some x → test x ≡ true) → test x ≡ true
-      go true h k rest = let s : y ≡ x = cc in subst (λ (z : A). test z ≡ true) s h
+      go : (b : Bool) → test y ≡ b → (if b then some y else findIf test ys) ≡ some x → (findIf test ys ≡ some x → P x) → P x
+      go true h k rest = let s : y ≡ x = cc in subst P s (all .0 h)
       go false h k rest = rest k
-
-  -- and has what every element has
-  pub found-has : (P : A → Type 0) (test : A → Bool) (xs : List A) → All P xs → {x : A} → findIf test xs ≡ some x → P x
-  unfolding findIf
-  found-has P test [] all e = let z : _≡_ {A = ℕ} 0 1 = cc in absurd (omega arith)
-  found-has P test (y ∷ ys) all {x} e = go (test y) e (found-has P test ys (all .1))
-    where
-      go : (b : Bool) → (if b then some y else findIf test ys) ≡ some x → (findIf test ys ≡ some x → P x) → P x
-      go true k rest = let s : y ≡ x = cc in subst P s (all .0)
-      go false k rest = rest k
 
   pub not-found : (test : A → Bool) (xs : List A) → All (λ x. test x ≡ false) xs → findIf test xs ≡ none
   unfolding findIf

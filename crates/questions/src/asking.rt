@@ -74,6 +74,7 @@ fn make_list(text: &[u8], window: usize, n: [i32; 5], table: &[i32]) -> bool {
     true
 }
 
+// By itself, so that an element may be cast where it is read.
 fn wide(word: u32) -> u64 {
     word as u64
 }

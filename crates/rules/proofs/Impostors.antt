@@ -91,17 +91,14 @@ pub right-list-search : ListSearched q qList three from19 (searched.Hit 1 2)
 unfolding tableRefusal listRefusal acceptRefusal insideProduct insideList firstInside insideCount from allOf anyOf countIf findIf firstOf selected flatMap
 right-list-search = record { answer = refl }
 
--- two frames of these columns, of which Q has points in frame 0 alone
-abbrev six : List ℤ
-six = three ++ three
-
-abbrev inFrame : ℤ → Place
-inFrame number = record { first = pos 19; frame = number }
-
+-- a screenful of two frames of these columns, by the number of the first; Q has points in frame 0 alone
 abbrev tripleRoom : List ℕ
 tripleRoom = replicate 7 7
 
-pub right-screen : ScreenSearched q qList six 2 (inFrame (negsuc 0)) tripleRoom (0 ∷ 0 ∷ 0 ∷ 1 ∷ 1 ∷ 2 ∷ 7 ∷ []) (written.Wrote 6)
+abbrev From : ℤ → List ℕ → Written → Type 0
+From number = ScreenSearched q qList (three ++ three) 2 (record { first = pos 19; frame = number }) tripleRoom
+
+pub right-screen : From (negsuc 0) (0 ∷ 0 ∷ 0 ∷ 1 ∷ 1 ∷ 2 ∷ 7 ∷ []) (written.Wrote 6)
 unfolding tableRefusal listRefusal acceptRefusal insideProduct insideList firstInside insideCount screenTriples from allOf anyOf countIf findIf firstOf selected flatMap
 right-screen = record { answer = refl; buffer = refl }
 
@@ -156,7 +153,7 @@ refuses-list-points why h = let e = list-located-settled h right-list-point in n
 pub refuses-list-searches : (why : Refusal) → ListSearched q qList three from19 (searched.Refused why) → ⊥
 refuses-list-searches why h = let e = list-searched-settled h right-list-search in never (cc)
 
-pub refuses-screens : (why : Refusal) {after : List ℕ} → ScreenSearched q qList six 2 (inFrame (negsuc 0)) tripleRoom after (written.Refused why) → ⊥
+pub refuses-screens : (why : Refusal) {after : List ℕ} → From (negsuc 0) after (written.Refused why) → ⊥
 refuses-screens why h = let e = screen-searched-settled h right-screen .0 in never (cc)
 
 pub refuses-texts : (why : Refusal) {after : List ℤ} → TextRead boxText tableRoom after (written.Refused why) → ⊥
@@ -218,7 +215,7 @@ list-invented-count first count other h = let e = list-searched-settled h right-
 pub list-untouched : (r : Written) → ListMade q window room room r → ⊥
 list-untouched r h = let e = list-made-settled h right-make .1 in never (cc)
 
-pub screen-untouched : (r : Written) → ScreenSearched q qList six 2 (inFrame (negsuc 0)) tripleRoom tripleRoom r → ⊥
+pub screen-untouched : (r : Written) → From (negsuc 0) tripleRoom r → ⊥
 screen-untouched r h = let e : _≡_ {A = ℕ} 7 0 = head-eq-of-cons-eq (screen-searched-settled h right-screen .1) in omega arith
 
 pub text-untouched : (r : Written) → TextWritten oneBox textRoom textRoom r → ⊥
@@ -230,40 +227,39 @@ table-untouched r h = let e = text-read-settled h right-read .1 in never (cc)
 -- ---- of a screenful: one that always says clear; one whose frame number stands still, so that frames of the same codes get the same words; one that
 -- counts positions over the frames
 
-module _ {after : List ℕ} {r : Written} (h : ScreenSearched q qList six 2 (inFrame (negsuc 0)) tripleRoom after r) where
-  -- what stands in it, by the outcome that is right
-  at-word : (i : ℕ) {n : ℕ} → word after i ≡ n → word (0 ∷ 0 ∷ 0 ∷ 1 ∷ 1 ∷ 2 ∷ 7 ∷ []) i ≡ n
-  at-word i is = ap (λ (words : List ℕ). word words i) (sym (screen-searched-settled h right-screen .1)) ∙ is
+-- each word of an outcome is that of the right one
+same-word : (number : ℤ) {words after : List ℕ} {r s : Written} → From number words r → From number after s → (i : ℕ) → word words i ≡ word after i
+same-word number right h i = ap (λ (ws : List ℕ). word ws i) (screen-searched-settled right h .1)
 
+module _ {after : List ℕ} {r : Written} (h : From (negsuc 0) after r) where
   pub screen-always-clear : word after 3 ≡ 0 → ⊥
-  screen-always-clear is = let e : _≡_ {A = ℕ} 1 0 = at-word 3 is in omega arith
+  screen-always-clear is = let e : _≡_ {A = ℕ} 1 0 = same-word (negsuc 0) right-screen h 3 ∙ is in omega arith
 
   pub number-stands-still : word after 3 ≡ word after 0 → ⊥
-  number-stands-still is = let e : _≡_ {A = ℕ} 1 0 = at-word 3 is ∙ sym (at-word 0 refl) in omega arith
+  number-stands-still is =
+      let e : _≡_ {A = ℕ} 1 0 = same-word (negsuc 0) right-screen h 3 ∙ is ∙ sym (same-word (negsuc 0) right-screen h 0) in omega arith
 
   pub positions-over-the-frames : word after 4 ≡ length three + 1 → ⊥
-  positions-over-the-frames is = let e : _≡_ {A = ℕ} 1 4 = at-word 4 is in omega arith
+  positions-over-the-frames is = let e : _≡_ {A = ℕ} 1 4 = same-word (negsuc 0) right-screen h 4 ∙ is in omega arith
 
 -- ---- one that forgets the hundred of a refused frame, and one that stops there: frame 1048576 does not exist, and neither does frame -1048577
 
-pub right-last-frame : ScreenSearched q qList six 2 (inFrame (pos 1048575)) tripleRoom (0 ∷ 0 ∷ 0 ∷ 112 ∷ 2 ∷ 0 ∷ 7 ∷ []) (written.Wrote 6)
+pub right-last-frame : From (pos 1048575) (0 ∷ 0 ∷ 0 ∷ 112 ∷ 2 ∷ 0 ∷ 7 ∷ []) (written.Wrote 6)
 unfolding tableRefusal listRefusal acceptRefusal insideProduct insideList firstInside insideCount screenTriples from allOf anyOf countIf findIf firstOf selected flatMap
 right-last-frame = record { answer = refl; buffer = refl }
 
-pub hundred-forgotten : {after : List ℕ} {r : Written} → ScreenSearched q qList six 2 (inFrame (pos 1048575)) tripleRoom after r → word after 3 ≡ 12 → ⊥
-hundred-forgotten h is =
-    let e : _≡_ {A = ℕ} 112 12 = ap (λ (words : List ℕ). word words 3) (sym (screen-searched-settled h right-last-frame .1)) ∙ is in omega arith
+pub hundred-forgotten : {after : List ℕ} {r : Written} → From (pos 1048575) after r → word after 3 ≡ 12 → ⊥
+hundred-forgotten h is = let e : _≡_ {A = ℕ} 112 12 = same-word (pos 1048575) right-last-frame h 3 ∙ is in omega arith
 
-pub right-first-frame : ScreenSearched q qList six 2 (inFrame (negsuc 1048576)) tripleRoom (112 ∷ 2 ∷ 0 ∷ 0 ∷ 0 ∷ 0 ∷ 7 ∷ []) (written.Wrote 6)
+pub right-first-frame : From (negsuc 1048576) (112 ∷ 2 ∷ 0 ∷ 0 ∷ 0 ∷ 0 ∷ 7 ∷ []) (written.Wrote 6)
 unfolding tableRefusal listRefusal acceptRefusal insideProduct insideList firstInside insideCount screenTriples from allOf anyOf countIf findIf firstOf selected flatMap
 right-first-frame = record { answer = refl; buffer = refl }
 
 -- by leaving the words of the frames after it, or by refusing the whole call
-pub stops-at-a-refused-frame : (r : Written) → ScreenSearched q qList six 2 (inFrame (negsuc 1048576)) tripleRoom (over (112 ∷ 2 ∷ 0 ∷ []) tripleRoom) r → ⊥
-stops-at-a-refused-frame r h =
-    let e : _≡_ {A = ℕ} 7 0 = ap (λ (words : List ℕ). word words 3) (screen-searched-settled h right-first-frame .1) in omega arith
+pub stops-at-a-refused-frame : (r : Written) → From (negsuc 1048576) (over (112 ∷ 2 ∷ 0 ∷ []) tripleRoom) r → ⊥
+stops-at-a-refused-frame r h = let e : _≡_ {A = ℕ} 0 7 = same-word (negsuc 1048576) right-first-frame h 3 in omega arith
 
-pub refused-with-its-frame : (why : Refusal) {after : List ℕ} → ScreenSearched q qList six 2 (inFrame (negsuc 1048576)) tripleRoom after (written.Refused why) → ⊥
+pub refused-with-its-frame : (why : Refusal) {after : List ℕ} → From (negsuc 1048576) after (written.Refused why) → ⊥
 refused-with-its-frame why h = let e = screen-searched-settled h right-first-frame .0 in never (cc)
 
 -- ---- one that invents the product count, and one whose list is always empty: where there are two products, no other number does

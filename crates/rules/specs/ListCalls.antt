@@ -91,13 +91,14 @@ listSearchTold t list samples place =
 pub record ListSearched (t : List ℤ) (list : List ℕ) (samples : List ℤ) (place : Place) (r : Searched) : Type 0 where
   pub answer : toldSearched r ≡ listSearchTold t list samples place
 
--- the search of a screenful over a list: those, 12 with 0, 8. The words of frame j tell what the search of that frame tells
+-- the three words of frame j tell what the search of that frame tells
 abbrev pub frameTriple : List ℤ → List ℕ → List ℤ → ℕ → Place → ℕ → List ℕ
 frameTriple t list codes frames place j = tripleOf (listSearchTold t list (frameAt codes frames j) (later place j))
 
 unfoldable pub screenTriples : List ℤ → List ℕ → List ℤ → ℕ → Place → List ℕ
 screenTriples t list codes frames place = flatMap (frameTriple t list codes frames place) (below frames)
 
+-- the search of a screenful over a list: those, 12 with 0, 8
 abbrev pub screenRefusal : List ℤ → List ℕ → List ℤ → ℕ → ℕ → Option Refusal
 screenRefusal t list codes frames room =
     firstOf (acceptRefusal t list ∷ framesRefusal codes frames ∷ roomRefusal (tripleWords * frames) room ∷ [])

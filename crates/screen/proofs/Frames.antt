@@ -37,8 +37,15 @@ module _ (codes : List ℤ) (frames : ℕ) where
       go false true e = refl
       go false false e = cc
 
-  pub count-right : wrongCount ≡ false → framesRefusal codes frames ≡ refuseIf uneven 12 0
-  count-right h = let each = or-false (eqb frames 0) (ltb mostFrames frames) h in rw (each .0, each .1)
+  module _ (h : wrongCount ≡ false) where
+    pub count-right : framesRefusal codes frames ≡ refuseIf uneven 12 0
+    count-right = let each = or-false (eqb frames 0) (ltb mostFrames frames) h in rw (each .0, each .1)
+
+    pub one-frame : 1 ≤ frames
+    one-frame = omega (arith, eqb-false frames 0 (or-false (eqb frames 0) (ltb mostFrames frames) h .0))
+
+    pub few-frames : frames ≤ mostFrames
+    few-frames = ltb-false mostFrames frames (or-false (eqb frames 0) (ltb mostFrames frames) h .1)
 
   -- a screenful that is not refused
   pub record FramesRight : Type 0 where
@@ -50,11 +57,11 @@ module _ (codes : List ℤ) (frames : ℕ) where
   frames-right e =
       let a = or-false (eqb frames 0) (ltb mostFrames frames || uneven) (if-kept (eqb frames 0 || (ltb mostFrames frames || uneven)) 12 0 e) in
       let b = or-false (ltb mostFrames frames) uneven (a .1) in
-      let some : frames ≡ 0 → ⊥ = eqb-false frames 0 (a .0) in
+      let counted : wrongCount ≡ false = rw (a .0, b .0) in
       let left : length codes % frames ≡ 0 = eqb-true (length codes % frames) 0 (not-false _ (b .1)) in
       record {
-        some-frame = omega arith;
-        not-over = ltb-false mostFrames frames (b .0);
+        some-frame = one-frame counted;
+        not-over = few-frames counted;
         even = omega (arith, div-add-mod' (length codes) frames, left);
       }
 

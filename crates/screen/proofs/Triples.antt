@@ -1,16 +1,16 @@
 -- What a search by an accepted list tells is small: 32 bits hold each of the three words. Assumes nothing.
 use Prim.Native.Nat.{ℕ, _+_, _≤_, _<_}
 use native.Mathlib.Omega.{arith}
-use mathlib.Core.Bool.{Bool, _||_}
+use mathlib.Core.Bool.{Bool, true, _||_}
 use mathlib.Core.List.{List, [], _∷_}
 use mathlib.Core.Option.{Option, none, some}
 use mathlib.Core.Path.{_≡_, refl, sym, subst}
 use lib.Dec.{eqb, ltb}
 use lib.IntN.{ℤ}
 use lib.ListN.{length}
-use Rattle.ground.specs.Lists.{below, allOf, firstOf}
+use Rattle.ground.specs.Lists.{All, below, allOf, firstOf}
 use Rattle.ground.proofs.Counting.{numbers-below, first-kept}
-use Rattle.ground.proofs.Lists.{found-has}
+use Rattle.ground.proofs.Lists.{all-map, found}
 use Rattle.ground.proofs.Namings.{count-most}
 use Rattle.ground.proofs.Pieces.{from-length}
 use Rattle.rules.specs.declared.Place.{Place}
@@ -59,15 +59,21 @@ module _ (samples : List ℤ) (place : Place) where
 
     found-small : (isInside : Point → Bool) → Small (fine (searchTale (firstInside isInside samples place) (insideCount isInside samples place)))
     unfolding firstInside insideCount
-    found-small isInside = go _ _ (λ k e. found-has (λ i. i < 0 + length samples) test numbers (numbers-below 0 (length samples)) e) (count-most test numbers)
+    found-small isInside = go _ _ (λ k e. found InFrame test numbers each e) (count-most test numbers)
       where
+        InFrame : ℕ → Type 0
+        InFrame k = k < 0 + length samples
+
         test : ℕ → Bool
         test = sampleInside isInside samples place
 
         numbers : List ℕ
         numbers = below (length samples)
 
-        go : (found : Option ℕ) (count : ℕ) → ((k : ℕ) → found ≡ some k → k < 0 + length samples) → count ≤ length numbers → Small (fine (searchTale found count))
+        each : All (λ k. test k ≡ true → InFrame k) numbers
+        each = all-map InFrame (λ k. test k ≡ true → InFrame k) (λ k l h. l) numbers (numbers-below 0 (length samples))
+
+        go : (found : Option ℕ) (count : ℕ) → ((k : ℕ) → found ≡ some k → InFrame k) → count ≤ length numbers → Small (fine (searchTale found count))
         go none count in-frame few = (omega arith, (omega arith, (omega arith, tt)))
         go (some k) count in-frame few =
             (omega arith, (omega (arith, in-frame k refl), (omega (arith, from-length 0 (length samples)), tt)))

@@ -1,7 +1,6 @@
 // Searching a screenful: frames that lie end to end, one after the other, by a list that is accepted once.
 use rules::Checked;
 use rules::Place;
-use rules::Refusal;
 use rules::Searched;
 use rules::Written;
 ghost use Prim.Native.Nat.{_+_, _*_, _^_, _≤_, _<_};
@@ -17,6 +16,7 @@ ghost use Rattle.rules.specs.Told.{toldSearched};
 ghost use Rattle.laws.specs.Checking.{checkedBy};
 ghost use Rattle.answer.specs.Checks.{Accepted};
 ghost use Rattle.screen.specs.Places.{Alike};
+ghost use Rattle.screen.specs.Shape.{shapeRefusal};
 ghost use Rattle.screen.specs.Triples.{Small};
 
 // The three words at a position.
@@ -120,41 +120,21 @@ fn put_triples(
     }
 }
 
-// There is a frame, there are not too many, and the codes divide evenly.
-fn check_frames(codes: &[i16], frames: usize) -> Checked
-    ensures { λ r. ⌜ r ≡ checkedBy (framesRefusal (now (codes .entry)) frames) ⌝ }
+// There is a frame, there are not too many, the codes divide evenly, and there is room.
+fn check_screen(codes: &[i16], frames: usize, room: usize) -> Checked
+    ensures { λ r. ⌜ r ≡ checkedBy (shapeRefusal (now (codes .entry)) frames room) ⌝ }
 {
     if (frames == 0) | (rules::MOST_FRAMES < frames) {
         return table::refused(12, 0);
     }
-    table::refuse_if(codes.len() % frames != 0, 12, 0)
-}
-
-// The frames are right: the room, then the triples.
-fn search_right(
-    table: &[i32],
-    list: &[u64],
-    codes: &[i16],
-    frames: usize,
-    place: Place,
-    triples: &mut [u32],
-) -> Written
-    requires { ⌜ Accepted (now table) (now list) ⌝ }
-    requires { ⌜ framesRefusal (now codes) frames ≡ none ⌝ }
-    ensures { λ r. ⌜ ScreenSearched (now (table .entry)) (now (list .entry)) (now (codes .entry)) frames place (now (triples .entry)) (now (triples .exit)) r ⌝ }
-{
     let needed = rules::TRIPLE_WORDS * frames;
-    if triples.len() < needed {
-        return Written::Refused(Refusal {
-            number: 8,
-            value: needed as u64,
-        });
-    }
-    put_triples(table, list, codes, frames, place, triples);
-    Written::Wrote(needed)
+    table::first_of(
+        table::refuse_if(codes.len() % frames != 0, 12, 0),
+        table::refuse_unless(needed <= room, 8, needed),
+    )
 }
 
-// Table and list are accepted: the frames, then their search.
+// Table and list are accepted: the shape and the room, then the triples.
 fn search_frames(
     table: &[i32],
     list: &[u64],
@@ -166,10 +146,13 @@ fn search_frames(
     requires { ⌜ Accepted (now table) (now list) ⌝ }
     ensures { λ r. ⌜ ScreenSearched (now (table .entry)) (now (list .entry)) (now (codes .entry)) frames place (now (triples .entry)) (now (triples .exit)) r ⌝ }
 {
-    let checked = check_frames(codes, frames);
+    let checked = check_screen(codes, frames, triples.len());
     match checked {
         Checked::Refused(refusal) => Written::Refused(refusal),
-        Checked::Sound => search_right(table, list, codes, frames, place, triples),
+        Checked::Sound => {
+            put_triples(table, list, codes, frames, place, triples);
+            Written::Wrote(rules::TRIPLE_WORDS * frames)
+        }
     }
 }
 
