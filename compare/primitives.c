@@ -10,6 +10,17 @@ static unsigned seldom_wide[AXES];
 /* How seldom a primitive of the zone is a wedge or a drum; drums are small and miss much. */
 static unsigned seldom_wedge, seldom_drum;
 
+/* Where the text of a number gets a digit more: a power of ten, or one less, or the same below 0. */
+static int64_t any_new_digit(void)
+{
+    int64_t power = 1;
+    for (uint64_t digits = below(10); digits > 0; digits--)
+        power *= 10;
+    return (one_in(2) ? -1 : 1) * (power - between(0, 1));
+}
+
+#define STYLES 6
+
 static int64_t any_mark_value(int axis, unsigned style, int64_t base)
 {
     int64_t least = limits[axis].least, greatest = limits[axis].greatest;
@@ -19,6 +30,7 @@ static int64_t any_mark_value(int axis, unsigned style, int64_t base)
     case 2: /* where columns end, too: frames go on there */
         return ONE_OF(least, least + 1, LEAST_COLUMN - 1, -1, 0, 1, GREATEST_COLUMN + 1, greatest - 1, greatest);
     case 3: return any_coordinate(axis);
+    case 4: return any_new_digit();
     default:
         return one_in(2) ? between(-3, 9) : ONE_OF(least, greatest, -GREATEST_RADIUS - 1, -GREATEST_RADIUS, GREATEST_RADIUS,
                                                    GREATEST_RADIUS - 1);
@@ -27,9 +39,9 @@ static int64_t any_mark_value(int axis, unsigned style, int64_t base)
 
 void any_marks(void)
 {
-    unsigned common = (unsigned)below(5);
+    unsigned common = (unsigned)below(STYLES);
     for (int axis = X; axis < AXES; axis++) {
-        unsigned style = one_in(2) ? common : (unsigned)below(5);
+        unsigned style = one_in(2) ? common : (unsigned)below(STYLES);
         int64_t base = any_coordinate(axis);
         for (size_t i = 0; i < MARKS; i++)
             marks[axis][i] = in_range(axis, any_mark_value(axis, style, base));
@@ -78,7 +90,7 @@ static int64_t any_slope(int is_steep)
 static int64_t any_limit(const int32_t *row)
 {
     if (one_in(8))
-        return ONE_OF(INT32_MIN, INT32_MAX, 0, -1, 1, between(INT32_MIN, INT32_MAX));
+        return ONE_OF(INT32_MIN, INT32_MAX, 0, -1, 1, between(INT32_MIN, INT32_MAX), any_new_digit());
     int64_t limit = one_in(2) ? between(-1, 1) : 0;
     for (int axis = X; axis < AXES; axis++) {
         const int32_t *lo_hi = row + BOUND + LO(axis);

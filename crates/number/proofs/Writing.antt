@@ -1,58 +1,20 @@
--- How a number is written: its digits are collected, the last one first, and turned round. Assumes nothing.
-use Prim.Native.Nat.{ℕ, suc, _+_, _-_, _/_, _%_, _^_, _≤_, _<_}
-use native.Mathlib.Nat.{add-zero, zero-add}
+-- How bytes, and the digits of a number, are put into a buffer, one after the other. Assumes nothing.
+use Prim.Native.Nat.{ℕ, zero, suc, _+_, _-_, _*_, _/_, _%_, _^_, _≤_, _<_}
+use native.Mathlib.Nat.{add-zero, zero-add, pow-suc, pow-succ', one-le-pow, le-refl, mod-lt, mod-eq-of-lt, div-one, div-lt-iff-lt-mul}
 use native.Mathlib.Numerals.{add-one}
 use native.Mathlib.Omega.{arith}
-use mathlib.Core.List.{List, [], _∷_, _++_, append-nil, reverse, reverse-cons, reverse-append}
+use mathlib.Core.List.{List, [], _∷_, _++_}
 use mathlib.Core.Path.{_≡_, refl, sym, ap, subst, _∙_}
-use lib.ListN.{length, getD, take, drop, set, length-append, length-drop, length-reverse}
-use lib.Seq.{sets, sets-eq, length-sets, take-suc, take-suc-set, take-all, take-append-seam, append-snoc, drop-cons, drop-length}
+use lib.ListN.{length, getD, take, drop, set, length-append}
+use lib.Seq.{sets, sets-eq, length-sets, take-suc, take-all, take-append-seam}
+use mir.Syntax.{w8}
+use mir.Val.{Fits}
 use Rattle.ground.proofs.Writes.{sets-append}
 use Rattle.rules.specs.Outcome.{over}
 use Rattle.rules.specs.Text.{digit}
 use Rattle.rules.specs.Listing.{wordText}
-use Rattle.number.specs.Writing.{Collected, Put}
-use Rattle.number.proofs.Digits.{one-digit, last-digit, more-digits, some-digit}
-
--- ---- collecting
-
--- the first `count` bytes are the last digits of n, and the digits of `left` are still to come
-pub record Collecting (n left : ℕ) (bytes : List ℕ) (count : ℕ) : Type 0 where
-  pub size : count + length (wordText left) ≡ length (wordText n)
-  pub turned : wordText left ++ reverse (take count bytes) ≡ wordText n
-
-pub none-collected : (n : ℕ) (bytes : List ℕ) → Collecting n n bytes 0
-none-collected n bytes = record { size = zero-add (length (wordText n)); turned = append-nil (wordText n) }
-
--- the byte collected last comes first when they are turned round
-last-first : (bytes : List ℕ) (count d : ℕ) → count < length bytes → reverse (take (count + 1) (set bytes count d)) ≡ d ∷ reverse (take count bytes)
-last-first bytes count d h =
-    ap (λ (k : ℕ). reverse (take k (set bytes count d))) (add-one count)
-    ∙ ap reverse (take-suc-set bytes count d h) ∙ reverse-append (take count bytes) (d ∷ [])
-
-module _ {n left count : ℕ} {bytes : List ℕ} (c : Collecting n left bytes count) (fits : length (wordText n) ≤ length bytes) where
-  pub room : count < length bytes
-  room = omega (arith, c .size, some-digit 19 left)
-
-  pub one-collected : 10 ≤ left → left < 10 ^ 20 → Collecting n (left / 10) (set bytes count (digit (left % 10))) (count + 1)
-  one-collected h l =
-      let others = wordText (left / 10) in
-      let ending = reverse (take count bytes) in
-      record {
-        size = omega (arith, c .size, more-digits left h l);
-        turned =
-            ap (λ (ds : List ℕ). others ++ ds) (last-first bytes count (digit (left % 10)) room)
-            ∙ sym (append-snoc others (digit (left % 10)) ending)
-            ∙ ap (λ (ds : List ℕ). ds ++ ending) (sym (last-digit left h l)) ∙ c .turned;
-      }
-
-  pub all-collected : left < 10 → Collected n (set bytes count (digit left)) (count + 1)
-  all-collected l = record {
-    size = omega (arith, c .size, ap length (one-digit left l));
-    turned =
-        last-first bytes count (digit left) room
-        ∙ ap (λ (ds : List ℕ). ds ++ reverse (take count bytes)) (sym (one-digit left l)) ∙ c .turned;
-  }
+use Rattle.number.specs.Writing.{Put}
+use Rattle.number.proofs.Digits.{some-digit, below-size, digit-at, goes-into, less-left}
 
 -- ---- putting
 
@@ -105,33 +67,92 @@ module _ {before bytes text : List ℕ} {at i : ℕ} (c : Copying before at byte
   pub all-copied : length bytes ≤ i → Put before at bytes text (at + i)
   all-copied h = put-same (sym (take-all i bytes h)) (c .put)
 
--- ---- turning round
+-- ---- spelling
 
--- the bytes from `left` on were put, the last one first
-pub record Turning (before : List ℕ) (at : ℕ) (bytes text : List ℕ) (next left : ℕ) : Type 0 where
-  pub within : left ≤ length bytes
-  pub put : Put before at (reverse (drop left bytes)) text next
+-- the first i digits were put; the next is that of `power`, others follow it, and `left` is what they are worth together
+pub record Spelling (n : ℕ) (before : List ℕ) (at : ℕ) (text : List ℕ) (i power left : ℕ) : Type 0 where
+  pub others : ℕ
+  pub size : i + suc others ≡ length (wordText n)
+  pub power-is : power ≡ 10 ^ others
+  pub left-is : left ≡ n % (10 * power)
+  pub copying : Copying before at (wordText n) text i
 
-pub none-turned : (before : List ℕ) (at : ℕ) (bytes : List ℕ) → Turning before at bytes before at (length bytes)
-none-turned before at bytes = record {
-  within = omega arith;
-  put = put-same (ap reverse (drop-length bytes)) (put-none before at);
-}
+module _ (n : ℕ) (fits : n < 10 ^ 20) (before : List ℕ) (at : ℕ) where
+  pub none-spelt : {power : ℕ} → power ≡ 10 ^ (length (wordText n) - 1) → Spelling n before at before 0 power n
+  none-spelt {power} is =
+      let digits = length (wordText n) in
+      let size : suc (digits - 1) ≡ digits = omega (arith, some-digit 19 n) in
+      let above : 10 * power ≡ 10 ^ digits = ap (λ (p : ℕ). 10 * p) is ∙ sym (pow-succ' 10 (digits - 1)) ∙ ap (λ (k : ℕ). 10 ^ k) size in
+      record {
+        others = digits - 1;
+        size = zero-add (suc (digits - 1)) ∙ size;
+        power-is = is;
+        left-is = sym (mod-eq-of-lt (omega (arith, below-size n fits)));
+        copying = none-copied before at (wordText n);
+      }
 
--- the first of the bytes from i on comes last when they are turned round
-first-last : (bytes : List ℕ) (i : ℕ) → i < length bytes → reverse (drop i bytes) ≡ reverse (drop (suc i) bytes) ++ (getD bytes i 0 ∷ [])
-first-last bytes i h = ap reverse (drop-cons bytes i 0 h) ∙ reverse-cons (getD bytes i 0) (drop (suc i) bytes)
+module _ {n : ℕ} {before : List ℕ} {at : ℕ} {text : List ℕ} {i power left : ℕ} (s : Spelling n before at text i power left) where
+  not-spelt : i < length (wordText n)
+  not-spelt = omega (arith, s .size)
 
-module _ {before bytes text : List ℕ} {at next left : ℕ} (t : Turning before at bytes text next left) where
-  pub turned-size : next + left ≡ at + length bytes
-  turned-size = omega (arith, t .within, t .put .end, length-reverse (drop left bytes), length-drop left bytes)
+  pub room : at + length (wordText n) ≤ length before → (at + i < length before) × (at + i < length text)
+  room h = omega (arith, not-spelt, put-size (s .copying .put))
 
-  pub one-turned : 0 < left → Turning before at bytes (set text next (getD bytes (left - 1) 0)) (next + 1) (left - 1)
-  one-turned h =
-      let b = getD bytes (left - 1) 0 in
-      let later : suc (left - 1) ≡ left = omega arith in
-      let turned = first-last bytes (left - 1) (omega (arith, t .within)) ∙ ap (λ (i : ℕ). reverse (drop i bytes) ++ (b ∷ [])) later in
-      record { within = omega (arith, t .within); put = put-same turned (put-join (t .put) (put-one b text next)) }
+  some-power : 0 < power
+  some-power = subst (λ (p : ℕ). 0 < p) (sym (s .power-is)) (one-le-pow (s .others) 10 (omega arith))
 
-  pub all-turned : left ≡ 0 → Put before at (reverse bytes) text next
-  all-turned e = put-same (ap (λ (i : ℕ). reverse (drop i bytes)) (sym e)) (t .put)
+  next-digit : left / power ≡ n / power % 10
+  next-digit = ap (λ (m : ℕ). m / power) (s .left-is) ∙ goes-into n some-power
+
+  -- the power goes into what is left, and into less, at most nine times
+  at-most-nine : {x : ℕ} → x ≤ left → x / power < 10
+  at-most-nine h = div-lt-iff-lt-mul some-power .1 (omega (arith, s .left-is, mod-lt n {m = 10 * power} (omega (arith, some-power))))
+
+  pub nine-fits : {x : ℕ} → x ≤ left → Fits w8 (x / power)
+  nine-fits h = record { fits = omega (arith, at-most-nine h) }
+
+  pub digit-fits : {x : ℕ} → x ≤ left → Fits w8 (digit (x / power))
+  digit-fits h = record { fits = omega (arith, at-most-nine h) }
+
+  digit-put : n < 10 ^ 20 → Copying before at (wordText n) (set text (at + i) (digit (left / power))) (i + 1)
+  digit-put fits =
+      let next = digit-at (s .others) n i fits (s .size) ∙ ap (λ (p : ℕ). digit (n / p % 10)) (sym (s .power-is)) ∙ ap digit (sym next-digit) in
+      subst (λ (d : ℕ). Copying before at (wordText n) (set text (at + i) d) (i + 1)) next (one-copied (s .copying) not-spelt)
+
+  -- what is divided has to be what is left
+  pub one-spelt : n < 10 ^ 20 → 1 < power → {x : ℕ} → x ≡ left
+      → Spelling n before at (set text (at + i) (digit (x / power))) (i + 1) (power / 10) (left % power)
+  one-spelt fits h {x} same = go (s .others) (s .size) (s .power-is)
+    where
+      go : (k : ℕ) → i + suc k ≡ length (wordText n) → power ≡ 10 ^ k
+          → Spelling n before at (set text (at + i) (digit (x / power))) (i + 1) (power / 10) (left % power)
+      go zero size is = absurd (omega arith)
+      go (suc k) size is =
+          let tenth : power / 10 ≡ 10 ^ k = omega (arith, pow-suc 10 k) in
+          let whole : power ≡ 10 * (power / 10) = omega (arith, pow-suc 10 k) in
+          record {
+            others = k;
+            size = omega arith;
+            power-is = tenth;
+            left-is = ap (λ (m : ℕ). m % power) (s .left-is) ∙ less-left n some-power ∙ ap (λ (p : ℕ). n % p) whole;
+            copying = rw same (digit-put fits);
+          }
+
+  -- the last digit is all that is left
+  last-alone : power ≤ 1 → s .others ≡ 0
+  last-alone h = go (s .others) (s .power-is)
+    where
+      go : (k : ℕ) → power ≡ 10 ^ k → k ≡ 0
+      go zero is = refl
+      go (suc k) is = absurd (omega (arith, pow-suc 10 k, one-le-pow k 10 (omega arith)))
+
+  last-whole : power ≤ 1 → left / power ≡ left
+  last-whole h = let one : power ≡ 1 = omega (arith, some-power) in ap (λ (p : ℕ). left / p) one ∙ div-one left
+
+  pub nine-left : power ≤ 1 → left < 10
+  nine-left h = omega (arith, last-whole h, at-most-nine (le-refl left))
+
+  pub all-spelt : n < 10 ^ 20 → power ≤ 1 → Put before at (wordText n) (set text (at + i) (digit left)) (at + i + 1)
+  all-spelt fits h =
+      let p = all-copied (digit-put fits) (omega (arith, s .size, last-alone h)) in
+      record { end = omega (arith, p .end); buffer = rw (last-whole h) at (p .buffer) }

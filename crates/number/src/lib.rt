@@ -1,14 +1,13 @@
 // Numbers as text: writing one into a lent buffer, and reading the one that stands at a position of a text.
-ghost use Prim.Native.Nat.{_+_, _≤_, _<_};
+ghost use Prim.Native.Nat.{_+_, _-_, _^_, _≤_, _<_};
 ghost use mathlib.Core.Bool.{true};
-ghost use mathlib.Core.List.{reverse};
 ghost use mathlib.Core.Path.{_≡_};
 ghost use lib.IntN.{pos, negℤ, natAbs};
 ghost use lib.ListN.{length, drop};
 ghost use Rattle.ground.specs.Tests.{Says};
 ghost use Rattle.rules.specs.Text.{numberText};
 ghost use Rattle.rules.specs.Listing.{wordText};
-ghost use Rattle.number.specs.Writing.{Collected, Put};
+ghost use Rattle.number.specs.Writing.{Put};
 ghost use Rattle.number.specs.Reading.{isDigit, ReadsNumber, grown, scanned, Confirmed};
 
 // Whether a number stands at a position; then which one, and the position after it.
@@ -58,37 +57,6 @@ pub fn number_length(v: i32) -> usize
     digits
 }
 
-// Collects the digits of a number, the last one first, and answers how many there are.
-fn collect_digits(digits: &mut [u8], n: u64) -> usize
-    requires { ⌜ length (wordText n) ≤ length (now digits) ⌝ }
-    ensures { λ r. ⌜ Collected n (now (digits .exit)) r ⌝ }
-{
-    let mut count = 0;
-    let mut left = n;
-    while 10 <= left {
-        digits[count] = b'0' + ((left % 10) as u8);
-        count += 1;
-        left = left / 10;
-    }
-    digits[count] = b'0' + (left as u8);
-    count + 1
-}
-
-// Copies bytes into a text from the last to the first, and answers the position after them.
-fn turn_round(text: &mut [u8], at: usize, bytes: &[u8]) -> usize
-    requires { ⌜ at + length (now bytes) ≤ length (now text) ⌝ }
-    ensures { λ r. ⌜ Put (now (text .entry)) at (reverse (now (bytes .entry))) (now (text .exit)) r ⌝ }
-{
-    let mut next = at;
-    let mut left = bytes.len();
-    while 0 < left {
-        left -= 1;
-        text[next] = bytes[left];
-        next += 1;
-    }
-    next
-}
-
 // Copies bytes into a text, and answers the position after them.
 pub fn put_bytes(text: &mut [u8], at: usize, bytes: &[u8]) -> usize
     requires { ⌜ at + length (now bytes) ≤ length (now text) ⌝ }
@@ -102,14 +70,35 @@ pub fn put_bytes(text: &mut [u8], at: usize, bytes: &[u8]) -> usize
     at + i
 }
 
-// Writes a number without a sign, and answers the position after it: its digits are collected, and turned round.
+// The power of ten that a number's first digit stands for: the highest that is not above the number, or 1 for 0. It is held against a tenth of the
+// number, since ten times the power may be past 64 bits.
+fn highest_power(n: u64) -> u64
+    ensures { λ r. ⌜ r ≡ 10 ^ (length (wordText n) - 1) ⌝ }
+{
+    let mut power: u64 = 1;
+    while power <= n / 10 {
+        power = power * 10;
+    }
+    power
+}
+
+// Writes a number without a sign, from the digit of its highest power of ten down, and answers the position after it. The last digit is what is then
+// left, which spares a division.
 pub fn put_decimal(text: &mut [u8], at: usize, n: u64) -> usize
     requires { ⌜ at + length (wordText n) ≤ length (now text) ⌝ }
     ensures { λ r. ⌜ Put (now (text .entry)) at (wordText n) (now (text .exit)) r ⌝ }
 {
-    let mut digits: [u8; 20] = [0; 20];
-    let count = collect_digits(&mut digits, n);
-    turn_round(text, at, &digits[..count])
+    let mut power = highest_power(n);
+    let mut left = n;
+    let mut i = 0;
+    while 1 < power {
+        text[at + i] = b'0' + ((left / power) as u8);
+        left = left % power;
+        power = power / 10;
+        i += 1;
+    }
+    text[at + i] = b'0' + (left as u8);
+    at + i + 1
 }
 
 // Writes a number, with a minus before a negative, and answers the position after it.

@@ -25,7 +25,9 @@ const LIST_SEARCH_FRAMES: usize = 16;
 
 const MAKE_LIST: usize = 17;
 
-const COMPARE: usize = 18;
+const WRITE_TEXT: usize = 18;
+
+const COMPARE: usize = 19;
 
 fn point_of(n: [i32; 5]) -> Point {
     Point {
@@ -71,6 +73,36 @@ fn make_list(text: &[u8], window: usize, n: [i32; 5], table: &[i32]) -> bool {
     }
     let mut list: [u64; 256] = [answers::FILL; 256];
     tell_list(table, bounds.window, &mut list[0..of], room);
+    true
+}
+
+// Writes the text of a table into the first bytes of a buffer, and tells how that went and what the buffer holds.
+fn tell_text(table: &[i32], text: &mut [u8], room: usize)
+    requires { ⌜ room ≤ length (now text) ⌝ }
+{
+    let answer = zone::write_text(table, &mut text[0..room]);
+    match answer {
+        Written::Wrote(n) => {
+            io::write_all(1, b"wrote");
+            answers::number(n as u64);
+        }
+        Written::Refused(r) => answers::refused(r),
+    }
+    io::write_all(1, b"\n");
+    io::write_all(1, text);
+}
+
+fn write_text(table: &[i32], n: [i32; 5]) -> bool {
+    let room = numbers::size_of(n[0]);
+    let of = numbers::size_of(n[1]);
+    if 512 < of {
+        return false;
+    }
+    if of < room {
+        return false;
+    }
+    let mut text: [u8; 512] = [b'.'; 512];
+    tell_text(table, &mut text[0..of], room);
     true
 }
 
@@ -176,7 +208,7 @@ fn numbers_of(call: usize) -> usize {
     if call == LIST_SEARCH_FRAMES {
         return 5;
     }
-    if call <= MAKE_LIST {
+    if call <= WRITE_TEXT {
         return 2;
     }
     6
@@ -193,6 +225,9 @@ fn tell(text: &[u8], call: usize, held: &[usize; 11], n: [i32; 5], table: &[i32]
     }
     if call == MAKE_LIST {
         return make_list(text, held[crate::WINDOW], n, table);
+    }
+    if call == WRITE_TEXT {
+        return write_text(table, n);
     }
     ask_more(text, call, held, n, table)
 }

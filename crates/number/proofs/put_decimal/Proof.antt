@@ -1,51 +1,95 @@
 use native.Mathlib.Omega.{arith}
-use mathlib.Core.Path.{sym}
 use borrow.Author.Needs.{needs}
-use lib.Seq.{length-take-le}
-use Rattle.rules.proofs.Numbers.{few-digits}
-use Rattle.number.proofs.Writing.{put-same}
+use lib.ListN.{length-set}
+use Rattle.number.proofs.Writing.{put-size, Spelling, none-spelt, room, nine-fits, digit-fits, one-spelt, nine-left, all-spelt}
 use Rattle.number.proofs.put_decimal.Statement.{statement}
 use Rattle.number.proofs.put_decimal.Tie as tie
 
-slice-aggregate-collect-digits : tie.Need-slice-aggregate-collect-digits
-slice-aggregate-collect-digits c = search needs
+abbrev Inv-loop : tie.InvT-loop
+Inv-loop text₀ at n power₀ left₀ i₀ text power left i = Spelling n text₀ at text i power left
 
-collect-digits-requires : tie.Need-collect-digits-requires
-collect-digits-requires c κs = few-digits 20 (c .before .before .args .n)
+abbrev μ-loop : tie.MeasureT-loop
+μ-loop text₀ at n power₀ left₀ i₀ text power left i = power
 
-array-share-prefix-digits : tie.Need-array-share-prefix-digits
-array-share-prefix-digits c =
-    let at-collect-digits = c .before .before in
-    let collected = at-collect-digits .collect-digits in
-    omega (arith, collected .ensures .size, collected .kept .0, few-digits 20 (at-collect-digits .before .before .before .args .n))
+highest-power-requires : tie.Need-highest-power-requires Inv-loop μ-loop
+highest-power-requires c κs = search needs
 
-slice-aggregate-turn-round : tie.Need-slice-aggregate-turn-round
-slice-aggregate-turn-round c = sym (length-take-le _ _ (array-share-prefix-digits (c .before)))
+loop-holds : tie.Need-loop-holds Inv-loop μ-loop
+loop-holds c = let s = c .before .before .args in none-spelt (s .n) (omega arith) (s .text .now) (s .at) (c .highest-power .ensures)
 
-turn-round-requires : tie.Need-turn-round-requires
-turn-round-requires c κs =
-    let at-collect-digits = c .before .before .before in
-    let collected = at-collect-digits .collect-digits in
-    omega (arith, at-collect-digits .before .before .before .pre, collected .ensures .size, slice-aggregate-turn-round c)
+div-text : tie.Need-div-text Inv-loop μ-loop
+div-text c = omega arith
 
-same-length : tie.Need-same-length
-same-length c = search needs
+cast-text : tie.Need-cast-text Inv-loop μ-loop
+cast-text c = nine-fits (c .before .loop .inv) (omega arith)
 
-returns : tie.Need-returns
-returns c =
-    let at-turn-round = c .before .before in
-    let at-collect-digits = at-turn-round .before .before .before .before in
-    let collected = at-collect-digits .collect-digits in
-    put-same (sym (collected .ensures .turned)) (at-turn-round .turn-round .ensures)
+add-text : tie.Need-add-text Inv-loop μ-loop
+add-text c = digit-fits (c .before .loop .inv) (omega arith)
+
+add-text-2 : tie.Need-add-text-2 Inv-loop μ-loop
+add-text-2 c = omega (arith, room (c .before .loop .inv) (c .before .before .before .before .pre))
+
+slice-write-text : tie.Need-slice-write-text Inv-loop μ-loop
+slice-write-text c = room (c .before .loop .inv) (c .before .before .before .before .pre) .1
+
+rem-left : tie.Need-rem-left Inv-loop μ-loop
+rem-left c = omega arith
+
+add-i : tie.Need-add-i Inv-loop μ-loop
+add-i c = omega (arith, add-text-2 c)
+
+loop-less : tie.Need-loop-less Inv-loop μ-loop
+loop-less c = omega arith
+
+loop-again : tie.Need-loop-again Inv-loop μ-loop
+loop-again c = one-spelt (c .before .loop .inv) (omega arith) (omega arith) (omega arith)
+
+cast-text-2 : tie.Need-cast-text-2 Inv-loop μ-loop
+cast-text-2 c = omega (arith, nine-left (c .before .loop .inv) (omega arith))
+
+add-text-3 : tie.Need-add-text-3 Inv-loop μ-loop
+add-text-3 c = omega (arith, nine-left (c .before .loop .inv) (omega arith))
+
+add-text-4 : tie.Need-add-text-4 Inv-loop μ-loop
+add-text-4 c = omega (arith, room (c .before .loop .inv) (c .before .before .before .before .pre))
+
+slice-write-text-2 : tie.Need-slice-write-text-2 Inv-loop μ-loop
+slice-write-text-2 c = room (c .before .loop .inv) (c .before .before .before .before .pre) .1
+
+add-result : tie.Need-add-result Inv-loop μ-loop
+add-result c = add-text-4 c
+
+add-result-2 : tie.Need-add-result-2 Inv-loop μ-loop
+add-result-2 c = omega (arith, room (c .before .loop .inv) (c .before .before .before .before .pre))
+
+same-length : tie.Need-same-length Inv-loop μ-loop
+same-length c = simp length-set (put-size (c .before .loop .inv .copying .put))
+
+returns : tie.Need-returns Inv-loop μ-loop
+returns c = all-spelt (c .before .loop .inv) (omega arith) (omega arith)
 
 pub put-decimal-spec : {M : Type 1} → statement M
 put-decimal-spec =
     tie.close
     (tie.spec
-    slice-aggregate-collect-digits
-    collect-digits-requires
-    array-share-prefix-digits
-    slice-aggregate-turn-round
-    turn-round-requires
+    Inv-loop
+    μ-loop
+    highest-power-requires
+    loop-holds
+    div-text
+    cast-text
+    add-text
+    add-text-2
+    slice-write-text
+    rem-left
+    add-i
+    loop-less
+    loop-again
+    cast-text-2
+    add-text-3
+    add-text-4
+    slice-write-text-2
+    add-result
+    add-result-2
     same-length
     returns)
