@@ -29,7 +29,7 @@
    - Every input has an answer; no call has a precondition besides those above.
 
    Threads: calls keep no state, so they may run at the same time unless one writes a buffer that is lent to another.
-   Stack: bytes as measured (no bounds) on tables of 127 rows: check 320; write_text 400; list_search 480; list_point 512;
+   Stack: bytes as measured (no bounds) on tables of 127 rows: check 320; write_text 384; list_search 480; list_point 512;
    list_search_frames 608; tree_point 4,256; tree_search 4,320; read_text 7,696; make_list 11,408. docs/PERFORMANCE.md says how.
    Cost: linear in the rows for check, tree_point and write_text; in the bytes for read_text; in samples * rows for tree_search;
    in rows + list words for list_point; in samples * (rows + list words) for list_search. list_search_frames checks table and

@@ -77,19 +77,19 @@ pub record Spelling (n : ℕ) (before : List ℕ) (at : ℕ) (text : List ℕ) (
   pub left-is : left ≡ n % (10 * power)
   pub copying : Copying before at (wordText n) text i
 
-module _ (n : ℕ) (fits : n < 10 ^ 20) (before : List ℕ) (at : ℕ) where
-  pub none-spelt : {power : ℕ} → power ≡ 10 ^ (length (wordText n) - 1) → Spelling n before at before 0 power n
-  none-spelt {power} is =
-      let digits = length (wordText n) in
-      let size : suc (digits - 1) ≡ digits = omega (arith, some-digit 19 n) in
-      let above : 10 * power ≡ 10 ^ digits = ap (λ (p : ℕ). 10 * p) is ∙ sym (pow-succ' 10 (digits - 1)) ∙ ap (λ (k : ℕ). 10 ^ k) size in
-      record {
-        others = digits - 1;
-        size = zero-add (suc (digits - 1)) ∙ size;
-        power-is = is;
-        left-is = sym (mod-eq-of-lt (omega (arith, below-size n fits)));
-        copying = none-copied before at (wordText n);
-      }
+pub none-spelt : (n : ℕ) {power : ℕ} → n < 10 ^ 20 → power ≡ 10 ^ (length (wordText n) - 1) → (before : List ℕ) (at : ℕ)
+    → Spelling n before at before 0 power n
+none-spelt n {power} fits is before at =
+    let digits = length (wordText n) in
+    let size : suc (digits - 1) ≡ digits = omega (arith, some-digit 19 n) in
+    let above : 10 * power ≡ 10 ^ digits = ap (λ (p : ℕ). 10 * p) is ∙ sym (pow-succ' 10 (digits - 1)) ∙ ap (λ (k : ℕ). 10 ^ k) size in
+    record {
+      others = digits - 1;
+      size = zero-add (suc (digits - 1)) ∙ size;
+      power-is = is;
+      left-is = sym (mod-eq-of-lt (omega (arith, below-size n fits)));
+      copying = none-copied before at (wordText n);
+    }
 
 module _ {n : ℕ} {before : List ℕ} {at : ℕ} {text : List ℕ} {i power left : ℕ} (s : Spelling n before at text i power left) where
   not-spelt : i < length (wordText n)

@@ -36,21 +36,21 @@ pub fn decimal_length(n: u64) -> usize
     digits
 }
 
-// A number's distance from 0: in 64 bits, since that of the least number is past the greatest of 32.
-fn magnitude(v: i32) -> u64
+// A number's distance from 0, by way of 64 bits: that of the least number is past the greatest, but fits 32 bits without a sign.
+fn magnitude(v: i32) -> u32
     ensures { λ r. ⌜ r ≡ natAbs v ⌝ }
 {
     if v < 0 {
-        return (-(v as i64)) as u64;
+        return (-(v as i64)) as u32;
     }
-    v as u64
+    v as u32
 }
 
 // How many bytes a number's text has.
 pub fn number_length(v: i32) -> usize
     ensures { λ r. ⌜ r ≡ length (numberText v) ⌝ }
 {
-    let digits = decimal_length(magnitude(v));
+    let digits = decimal_length(magnitude(v) as u64);
     if v < 0 {
         return digits + 1;
     }
@@ -106,7 +106,7 @@ pub fn put_number(text: &mut [u8], at: usize, v: i32) -> usize
     requires { ⌜ at + length (numberText v) ≤ length (now text) ⌝ }
     ensures { λ r. ⌜ Put (now (text .entry)) at (numberText v) (now (text .exit)) r ⌝ }
 {
-    let n = magnitude(v);
+    let n = magnitude(v) as u64;
     if v < 0 {
         text[at] = b'-';
         return put_decimal(text, at + 1, n);

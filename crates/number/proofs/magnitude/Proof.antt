@@ -32,7 +32,7 @@ cast-result-2 c =
     let number = in-64 (c .before) in
     let is = sym (negative-reads number tt) in
     let sign = negated v (rw (lent (c .before)) at (c .if1 .taken)) in
-    (subst (λ (z : ℤ). T (nonNeg z)) is sign, record { fits = subst (λ (z : ℤ). natAbs z < 2 ^ 64) is (omega (arith, abs-neg v, number .bound)) })
+    (subst (λ (z : ℤ). T (nonNeg z)) is sign, record { fits = subst (λ (z : ℤ). natAbs z < 2 ^ 32) is (omega (arith, abs-neg v, number .bound)) })
 
 returns : tie.Need-returns
 returns c = ap natAbs (negative-reads (in-64 (c .before)) tt) ∙ abs-neg (c .before .args .v)

@@ -10,6 +10,9 @@ use Rattle.number.proofs.number_length.Tie as tie
 magnitude-requires : tie.Need-magnitude-requires
 magnitude-requires c κs = search needs
 
+cast-decimal-length : tie.Need-cast-decimal-length
+cast-decimal-length c = search needs
+
 decimal-length-requires : tie.Need-decimal-length-requires
 decimal-length-requires c κs = search needs
 
@@ -30,4 +33,4 @@ returns-2 c =
 
 pub number-length-spec : {M : Type 1} → statement M
 number-length-spec =
-    tie.close (tie.spec magnitude-requires decimal-length-requires add-result returns returns-2)
+    tie.close (tie.spec magnitude-requires cast-decimal-length decimal-length-requires add-result returns returns-2)

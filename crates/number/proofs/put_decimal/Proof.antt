@@ -15,7 +15,7 @@ highest-power-requires : tie.Need-highest-power-requires Inv-loop μ-loop
 highest-power-requires c κs = search needs
 
 loop-holds : tie.Need-loop-holds Inv-loop μ-loop
-loop-holds c = let s = c .before .before .args in none-spelt (s .n) (omega arith) (s .text .now) (s .at) (c .highest-power .ensures)
+loop-holds c = let s = c .before .before .args in none-spelt (s .n) (omega arith) (c .highest-power .ensures) (s .text .now) (s .at)
 
 div-text : tie.Need-div-text Inv-loop μ-loop
 div-text c = omega arith

@@ -11,6 +11,9 @@ use Rattle.number.proofs.put_number.Tie as tie
 magnitude-requires : tie.Need-magnitude-requires
 magnitude-requires c κs = search needs
 
+cast-n : tie.Need-cast-n
+cast-n c = search needs
+
 slice-write-text : tie.Need-slice-write-text
 slice-write-text c =
     let s = c .before .before .before in
@@ -61,6 +64,7 @@ put-number-spec =
     tie.close
     (tie.spec
     magnitude-requires
+    cast-n
     slice-write-text
     add-put-decimal
     put-decimal-requires
