@@ -78,7 +78,7 @@ static const struct work {
     {"read_text", read_text}, {"write_text", write_text},
 };
 
-/* 64 primitives of that kind about the zero point, of the widest numbers that the rules let pass, and 63 unions in a chain. */
+/* 64 primitives of that kind, with the longest numbers that the rules let pass, and 63 unions in a chain. */
 static void put_chain(int32_t kind)
 {
     static const int32_t words[2][ROW_WORDS] = {
@@ -109,7 +109,7 @@ static void call_there(void (*call)(void))
                        "memory", "cc");
 }
 
-/* What a call leaves as it was filled is not seen, so that the stack is filled twice, with different bytes. */
+/* A byte that the call happens to leave as it was filled is not seen, so the stack is filled twice, with different bytes. */
 static size_t taken(void (*call)(void))
 {
     size_t most = 0;
