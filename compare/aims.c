@@ -36,6 +36,11 @@ int64_t any_aim(const struct table *table, int axis)
     return near_bounds(box.lo[axis], box.hi[axis]);
 }
 
+static int64_t magnitude(int64_t value)
+{
+    return value < 0 ? -value : value;
+}
+
 static int64_t floor_divided(int64_t value, int64_t by)
 {
     int64_t quotient = value / by;
@@ -87,6 +92,57 @@ static int has_round_rim(const int32_t *row)
     return row[KIND] == DRUM && is_radius(row[RADIUS + X]) && is_radius(row[RADIUS + Y]);
 }
 
+static int keeps_range(struct box box, int axis)
+{
+    return is_coordinate(axis, box.lo[axis]) && is_coordinate(axis, box.hi[axis]);
+}
+
+/* Between corners out of range the way along an edge might leave 64 bits; between equal ones there is none. */
+static int has_edges(const int32_t *row)
+{
+    struct box box = box_of(row);
+    return row[KIND] == TRIANGLE && keeps_range(box, X) && keeps_range(box, Y) && twice_area(row) != 0;
+}
+
+/* How far the edge from this corner to the next goes on an axis. */
+static int64_t edge_run(const int32_t *row, int corner, int axis)
+{
+    return row[CORNER(next_corner(corner), axis)] - row[CORNER(corner, axis)];
+}
+
+/* Where the edge is on an axis after so many of its parts; between two coordinates, the lower. */
+static int64_t along_edge(const int32_t *row, int corner, int axis, int64_t part, int64_t parts)
+{
+    return row[CORNER(corner, axis)] + floor_divided(edge_run(row, corner, axis) * part, parts);
+}
+
+static int64_t common_divisor(int64_t one, int64_t other)
+{
+    return other == 0 ? one : common_divisor(other, one % other);
+}
+
+/* Moves the spot to a corner or along an edge, half of the time to where a point lies on it, or to one beside that. */
+static void to_edge(const int32_t *row, int64_t spot[AXES])
+{
+    int corner = (int)below(CORNERS), moved = (int)below(2);
+    int64_t width = magnitude(edge_run(row, corner, X)), height = magnitude(edge_run(row, corner, Y));
+    int64_t parts = one_in(2) ? common_divisor(width, height) : width > height ? width : height;
+    int64_t part = between(0, parts);
+    spot[X] = along_edge(row, corner, X, part, parts);
+    spot[Y] = along_edge(row, corner, Y, part, parts);
+    spot[moved] += between(-1, 1);
+}
+
+/* In this column, a code at or beside the line of a triangle's edge; where none is to be had, one as on any axis. */
+int64_t any_code_at(const struct table *table, int64_t column)
+{
+    const int32_t *row = some_primitive(table);
+    int corner = (int)below(CORNERS);
+    if (row == NULL || !has_edges(row) || edge_run(row, corner, X) == 0)
+        return any_aim(table, Y);
+    return along_edge(row, corner, Y, column - row[CORNER(corner, X)], edge_run(row, corner, X)) + between(-1, 1);
+}
+
 /* A spot by one primitive: a corner, an edge, a face, one past them, or somewhere in between. */
 static void aim_at(const struct table *table, int64_t spot[AXES])
 {
@@ -103,6 +159,8 @@ static void aim_at(const struct table *table, int64_t spot[AXES])
         to_plane(row, spot);
     if (has_round_rim(row) && one_in(2))
         to_rim(row, spot);
+    if (has_edges(row) && one_in(2))
+        to_edge(row, spot);
 }
 
 /* Windows. */

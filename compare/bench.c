@@ -20,6 +20,7 @@ struct result {
     uint32_t triples[LAMPHOLLY_TRIPLE_WORDS];
 };
 
+typedef struct lampholly_answer check_call(const int32_t *, size_t);
 typedef struct lampholly_answer make_call(const int32_t *, size_t, struct lampholly_window, uint64_t *, size_t);
 typedef struct lampholly_answer tree_call(const int32_t *, size_t, const int16_t *, size_t, int32_t, int32_t);
 typedef struct lampholly_answer list_call(const int32_t *, size_t, const uint64_t *, size_t,
@@ -32,6 +33,7 @@ typedef struct lampholly_answer write_call(const int32_t *, size_t, uint8_t *, s
 /* The library comes first, then its peers; the call that is set says what is measured. */
 struct rival {
     const char *name;
+    check_call *check;
     make_call *make;
     tree_call *tree;
     list_call *list;
@@ -62,6 +64,10 @@ static struct lampholly_answer call_a_frame(const int32_t *table, size_t words, 
     return peer_done(TRIPLE_WORDS * frames);
 }
 
+static const struct rival checkers[MOST_RIVALS] = {
+    {.name = "ours", .check = lampholly_check},
+    {.name = "once through", .check = peer_check},
+};
 static const struct rival makers[MOST_RIVALS] = {
     {.name = "ours", .make = lampholly_make_list},
     {.name = "write out, prune, hash", .make = peer_write_out},
@@ -118,8 +124,16 @@ static const struct work works[] = {
     {"screen, 3 products: 500 frames of 10", build_narrow_screen, FEW | CLEAR, screen_searchers},
     {"screen, 100 products: 500 frames of 1,000", build_wide_screen, MANY | CLEAR, screen_searchers},
     {"screen, 100 products: 500 frames of 10", build_narrow_screen, MANY | CLEAR, screen_searchers},
-    {"text: reading 127 rows", build_text, 0, readers},
-    {"text: writing 127 rows", build_text, 0, writers},
+    {"text: reading 127 rows", build_text, MIXED, readers},
+    {"text: writing 127 rows", build_text, MIXED, writers},
+    {"check: 127 rows", build_text, MIXED, checkers},
+    {"check: 127 rows, all shapes triangles", build_text, TRIANGLES, checkers},
+    {"tree, 8 triangles: frame mostly clear", build_frame, EYE | CLEAR, tree_searchers},
+    {"tree, 8 triangles: frame mostly inside", build_frame, EYE | INSIDE, tree_searchers},
+    {"tree, 8 triangles: frame toggling", build_frame, EYE | TOGGLING, tree_searchers},
+    {"list, 8 triangles: frame mostly clear", build_frame, EYE | CLEAR, list_searchers},
+    {"list, 8 triangles: frame mostly inside", build_frame, EYE | INSIDE, list_searchers},
+    {"list, 8 triangles: frame toggling", build_frame, EYE | TOGGLING, list_searchers},
 };
 
 static struct load whole, half;
@@ -157,7 +171,9 @@ static void search_screen(const struct rival *rival, const struct load *load, st
 static void run(const struct rival *rival, const struct load *load, struct result *result)
 {
     const struct table *t = &load->zone[0];
-    if (rival->make != NULL)
+    if (rival->check != NULL)
+        add(result, rival->check(t->word, t->words));
+    else if (rival->make != NULL)
         for (size_t i = 0; i < load->zones; i++)
             add(result, rival->make(t[i].word, t[i].words, load->window, result->list, LAMPHOLLY_LIST_WORDS));
     else if (rival->read != NULL)

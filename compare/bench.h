@@ -35,11 +35,13 @@ build build_unions, build_cuts, build_sparse;
 int32_t add_box(struct table *table, int32_t xlo, int32_t xhi, int32_t ylo, int32_t yhi);
 int32_t add_wedge(struct table *table, int32_t xlo, int32_t xhi, int32_t ylo, int32_t yhi, int32_t a, int32_t b, int32_t d);
 int32_t add_drum(struct table *table, int32_t cx, int32_t cy, int32_t rx, int32_t ry);
+int32_t add_triangle(struct table *table, int32_t x1, int32_t y1, int32_t x2, int32_t y2, int32_t x3, int32_t y3);
 int32_t add_operation(struct table *table, int32_t operation, int32_t left, int32_t right);
 
-/* bench_frames.c: frames to search, and texts. */
-enum { FEW, MANY };
+/* bench_frames.c: frames to search, and tables of many rows with their texts. */
+enum { FEW = 0, MANY = 1, EYE = 8, ANY_ZONE = MANY | EYE }; /* a zone's bits, apart from a frame's */
 enum { CLEAR = 0, INSIDE = 2, TOGGLING = 4 };
+enum { MIXED, TRIANGLES };
 build build_frame, build_screen, build_wide_screen, build_narrow_screen, build_text;
 
 #endif

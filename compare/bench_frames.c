@@ -33,9 +33,11 @@ static int32_t add_grid(struct table *t, int32_t xlo, int32_t xhi, int32_t strip
     return add_operation(t, INTER, across, up);
 }
 
-static int32_t add_small(struct table *t, int32_t i)
+static int32_t add_small(struct table *t, int32_t i, int manner)
 {
     int32_t x = -32000 + 1600 * i, y = 16000 + 300 * (i % 40);
+    if (manner == TRIANGLES)
+        return add_triangle(t, x, y, x + 1500, y, x + 700, y + 900);
     switch (i % 3) {
     case 0: return add_box(t, x, x + 1500, y, y + 900);
     case 1: return add_wedge(t, x, x + 1500, y, y + 900, 1, 1, x + y + 1200);
@@ -49,7 +51,28 @@ static void put_many(struct table *t)
     t->words = table_words(0);
     int32_t all = add_operation(t, UNION, add_grid(t, LEAST_COLUMN, -1, 5, 5), add_grid(t, 0, GREATEST_COLUMN, 3, 12));
     for (int32_t i = 0; i < 39; i++)
-        all = add_operation(t, UNION, all, add_small(t, i));
+        all = add_operation(t, UNION, all, add_small(t, i, MIXED));
+}
+
+/* Two triangles: all codes from one to the other, in all columns. */
+static int32_t add_bar(struct table *t, int32_t ylo, int32_t yhi)
+{
+    int32_t lower = add_triangle(t, LEAST_COLUMN, ylo, GREATEST_COLUMN, ylo, LEAST_COLUMN, yhi);
+    return add_operation(t, UNION, lower, add_triangle(t, LEAST_COLUMN, yhi, GREATEST_COLUMN, ylo, GREATEST_COLUMN, yhi));
+}
+
+/* An eye mask: a hexagon of four triangles about code 10,000 and a bar of two above and below it. */
+static void put_eye(struct table *t)
+{
+    static const int32_t rim[][2] = {
+        {16000, 14000}, {-16000, 14000}, {LEAST_COLUMN, 10000}, {-16000, 6000}, {16000, 6000},
+    };
+    t->words = table_words(0);
+    int32_t all = add_operation(t, UNION, add_bar(t, 1000, 4000), add_bar(t, 16000, 19000));
+    for (int i = 0; i < 4; i++) {
+        const int32_t *one = rim[i], *next = rim[i + 1];
+        all = add_operation(t, UNION, all, add_triangle(t, GREATEST_COLUMN, 10000, one[X], one[Y], next[X], next[Y]));
+    }
 }
 
 /* A code for each sample: quiet with a pulse now and then, noise within the zone, or up and down. */
@@ -74,31 +97,32 @@ static void put_zone(struct load *load, int zone)
 {
     load->zones = 1;
     load->window = full;
-    if (zone == FEW)
-        put_few(&load->zone[0]);
-    else
-        put_many(&load->zone[0]);
+    switch (zone) {
+    case FEW: put_few(&load->zone[0]); break;
+    case MANY: put_many(&load->zone[0]); break;
+    default: put_eye(&load->zone[0]); break;
+    }
     load->list_words = peer_expand(load->zone[0].word, load->zone[0].words, full, load->list, sizeof load->list / 8).value;
 }
 
 /* One frame over all columns; for the half, over the first half of them. The manner is a zone's and a frame's together. */
 void build_frame(struct load *load, int manner, int is_half)
 {
-    put_zone(load, manner & 1);
+    put_zone(load, manner & ANY_ZONE);
     load->frames = 1;
     load->samples = is_half ? MOST_SAMPLES / 2 : MOST_SAMPLES;
     load->first = is_half ? LEAST_COLUMN / 2 : LEAST_COLUMN;
-    put_codes(load, manner & ~1);
+    put_codes(load, manner & ~ANY_ZONE);
 }
 
 /* A screenful of frames; for the half, half as many. */
 static void put_screen(struct load *load, int manner, int is_half, int32_t columns)
 {
-    put_zone(load, manner & 1);
+    put_zone(load, manner & ANY_ZONE);
     load->frames = is_half ? MOST_FRAMES / 2 : MOST_FRAMES;
     load->samples = (size_t)columns;
     load->first = -columns / 2;
-    put_codes(load, manner & ~1);
+    put_codes(load, manner & ~ANY_ZONE);
 }
 
 void build_screen(struct load *load, int manner, int is_half)
@@ -116,16 +140,15 @@ void build_narrow_screen(struct load *load, int manner, int is_half)
     put_screen(load, manner, is_half, 10);
 }
 
-/* A zone of 127 rows and its text; for the half, of 63 rows. */
+/* A zone of 127 rows and its text; for the half, of 63 rows. The manner is that of its shapes. */
 void build_text(struct load *load, int manner, int is_half)
 {
     struct table *table = &load->zone[0];
     int32_t shapes = is_half ? 32 : 64, all = -1;
-    (void)manner;
     load->zones = 1;
     table->words = table_words(0);
     for (int32_t i = 0; i < shapes; i++) {
-        int32_t small = add_small(table, i % 40);
+        int32_t small = add_small(table, i % 40, manner);
         all = all < 0 ? small : add_operation(table, (int32_t)(UNION + i % 3), all, small);
     }
     text_of(&load->text, table);

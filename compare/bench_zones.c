@@ -20,10 +20,17 @@ static int32_t last_row(const struct table *table)
 }
 
 /* All frames up to the newest. */
+static void put_frames(int32_t *row)
+{
+    row[bound_word(row[KIND], LO(Z))] = LEAST_FRAME;
+    row[bound_word(row[KIND], HI(Z))] = 0;
+}
+
 static void put_bounds(int32_t *row, int32_t xlo, int32_t xhi, int32_t ylo, int32_t yhi)
 {
-    const int32_t bound[BOUNDS] = {xlo, xhi, ylo, yhi, LEAST_FRAME, 0};
+    const int32_t bound[] = {xlo, xhi, ylo, yhi};
     memcpy(row + BOUND, bound, sizeof bound);
+    put_frames(row);
 }
 
 int32_t add_box(struct table *table, int32_t xlo, int32_t xhi, int32_t ylo, int32_t yhi)
@@ -45,6 +52,15 @@ int32_t add_wedge(struct table *table, int32_t xlo, int32_t xhi, int32_t ylo, in
 int32_t add_drum(struct table *table, int32_t cx, int32_t cy, int32_t rx, int32_t ry)
 {
     put_bounds(new_row(table, DRUM), cx, cy, rx, ry);
+    return last_row(table);
+}
+
+int32_t add_triangle(struct table *table, int32_t x1, int32_t y1, int32_t x2, int32_t y2, int32_t x3, int32_t y3)
+{
+    const int32_t corners[] = {x1, y1, x2, y2, x3, y3};
+    int32_t *row = new_row(table, TRIANGLE);
+    memcpy(row + CORNER(0, X), corners, sizeof corners);
+    put_frames(row);
     return last_row(table);
 }
 

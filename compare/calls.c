@@ -211,5 +211,5 @@ void ask(struct question question)
     }
     if (question.call == LIST_SEARCH_FRAMES && want.refusal == 0)
         ask_each_frame(&question);
-    tally(question.call, want);
+    tally(&question, want);
 }

@@ -4,7 +4,8 @@
 
 #include "differ.h"
 
-/* From so many cases on, every answer and refusal of every call, and all that a triple can tell, must have been seen. */
+/* From so many cases on, every answer and refusal of every call, all that a triple can tell and all that can be met of
+   triangles must have been seen. */
 #define MANY_CASES 5000
 
 static const struct lampholly_window full = {FULL_RANGE};

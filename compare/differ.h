@@ -43,7 +43,7 @@ void show_question(const struct question *question);
 
 /* tally.c: what was seen. */
 extern const char *const call_name[CALLS];
-void tally(enum call call, struct plain_answer answer);
+void tally(const struct question *question, struct plain_answer answer);
 void tally_triple(const uint32_t *triple);
 void print_tally(uint64_t seed, uint64_t cases);
 int is_all_seen(void);

@@ -7,7 +7,8 @@
 
 static int32_t any_bad_word(const int32_t *row, size_t at)
 {
-    const struct axis_limits *end = &limits[at == BOUND + LO(Z) || at == BOUND + HI(Z) ? Z : X];
+    int is_of_frames = at == bound_word(row[KIND], LO(Z)) || at == bound_word(row[KIND], HI(Z));
+    const struct axis_limits *end = &limits[is_of_frames ? Z : X];
     int32_t now = row[at];
     switch (below(8)) {
     case 0: return (int32_t)clamped((int64_t)now + between(-1, 1), INT32_MIN, INT32_MAX);
@@ -17,7 +18,7 @@ static int32_t any_bad_word(const int32_t *row, size_t at)
         return (int32_t)ONE_OF(0, 1, GREATEST_RADIUS, GREATEST_RADIUS + 1, -1,
                                end->greatest - GREATEST_RADIUS, end->greatest - GREATEST_RADIUS + 1,
                                end->least + GREATEST_RADIUS, end->least + GREATEST_RADIUS - 1);
-    case 4: return (int32_t)between(-2, 7);
+    case 4: return (int32_t)between(-2, KINDS + 1);
     case 5: return (int32_t)clamped(-(int64_t)now, INT32_MIN, INT32_MAX);
     default: return (int32_t)between(INT32_MIN, INT32_MAX);
     }
@@ -28,11 +29,12 @@ static int32_t *some_row(struct table *table)
     return table->word + table_words(below(rows_in(table->words)));
 }
 
-static int32_t *some_operation(struct table *table)
+/* A row of a kind that is wanted, if one is soon found. */
+static int32_t *some_row_of(struct table *table, int (*is_wanted)(int32_t kind))
 {
     for (int turn = 0; turn < 16; turn++) {
         int32_t *row = some_row(table);
-        if (is_operation(row[KIND]))
+        if (is_wanted(row[KIND]))
             return row;
     }
     return some_row(table);
@@ -49,20 +51,19 @@ static void swap_rows(struct table *table)
 /* A child that is no earlier row, is used elsewhere too, or is its own sibling. */
 static void damage_child(struct table *table)
 {
-    int32_t *row = some_operation(table);
+    int32_t *row = some_row_of(table, is_operation);
     int64_t number = (int64_t)rows_in((size_t)(row - table->word));
     int side = LEFT + (int)below(2), sibling = LEFT + RIGHT - side;
     row[side] = (int32_t)ONE_OF(number, number + 1, -1, INT32_MIN, row[sibling], 0, number - 1, between(0, number));
 }
 
-static void damage_spare_word(struct table *table)
+static void damage_spare_word(int32_t *row)
 {
-    int32_t *row = some_row(table);
     size_t spare = 1 + fields_of(row[KIND]);
     row[spare + below(ROW_WORDS - spare)] = (int32_t)ONE_OF(1, -1, INT32_MIN, 65536);
 }
 
-/* A primitive that is no box is sought first: it has more rules. */
+/* A drum or a wedge is sought first: it has more rules than a box, and a triangle has damage of its own. */
 static int32_t *some_ruled_row(struct table *table)
 {
     for (int turn = 0; turn < 8; turn++) {
@@ -71,6 +72,19 @@ static int32_t *some_ruled_row(struct table *table)
             return row;
     }
     return some_row(table);
+}
+
+/* Takes a bound just to the end of its rule, or just past it. */
+static void try_bound(int32_t *row, int axis)
+{
+    int32_t *lo_hi = row + bound_word(row[KIND], LO(axis));
+    int64_t past = (int64_t)below(2);
+    if (one_in(2))
+        lo_hi[0] = (int32_t)clamped((int64_t)lo_hi[1] + past, INT32_MIN, INT32_MAX);
+    else if (one_in(2))
+        lo_hi[0] = (int32_t)(limits[axis].least - past);
+    else
+        lo_hi[1] = (int32_t)(limits[axis].greatest + past);
 }
 
 /* Takes one field just to the end of its rule, or just past it. */
@@ -88,10 +102,58 @@ static void try_rule(struct table *table)
         row[SLOPE + X] = row[SLOPE + Y] = row[SLOPE + Z] = 0;
     else if (row[KIND] == WEDGE && one_in(2))
         row[SLOPE + axis] = (int32_t)(one_in(2) ? LEAST_SLOPE - past : GREATEST_SLOPE + past);
-    else if (is_primitive(row[KIND]) && one_in(2))
-        row[BOUND + LO(axis)] = (int32_t)clamped((int64_t)row[BOUND + HI(axis)] + past, INT32_MIN, INT32_MAX);
     else if (is_primitive(row[KIND]))
-        row[BOUND + LO(axis) + side] = (int32_t)(side == 0 ? limits[axis].least - past : limits[axis].greatest + past);
+        try_bound(row, row[KIND] == TRIANGLE ? Z : axis);
+}
+
+static int is_triangle(int32_t kind)
+{
+    return kind == TRIANGLE;
+}
+
+/* Puts the corners on one line, all three apart or some in one place. */
+static void flatten(int32_t *row)
+{
+    int from = (int)below(CORNERS), to = next_corner(from), middle = next_corner(to);
+    int64_t parts = between(1, 5), part = between(0, parts);
+    for (int axis = X; axis <= Y; axis++) {
+        int64_t start = row[CORNER(from, axis)], step = one_in(4) ? 0 : (row[CORNER(to, axis)] - start) / parts;
+        row[CORNER(middle, axis)] = (int32_t)(start + step * part);
+        row[CORNER(to, axis)] = (int32_t)(start + step * parts);
+    }
+}
+
+/* Takes a corner to an end of the range, just past it or far past it. */
+static void push_corner(int32_t *row)
+{
+    int axis = (int)below(2), corner = (int)below(CORNERS);
+    int64_t now = row[CORNER(corner, axis)], words = (int64_t)greatest_word(axis) + 1;
+    int64_t place = ONE_OF(limits[axis].least, limits[axis].least - 1, limits[axis].greatest, limits[axis].greatest + 1,
+                           now - words, now + words, INT32_MIN, INT32_MAX);
+    row[CORNER(corner, axis)] = (int32_t)clamped(place, INT32_MIN, INT32_MAX);
+}
+
+/* Takes each word of the triangle to an end of 32 bits, all of them to the same or not. */
+static void burst(int32_t *row)
+{
+    int32_t other = one_in(2) ? INT32_MAX : INT32_MIN;
+    for (size_t field = 1; field <= fields_of(TRIANGLE); field++)
+        row[field] = one_in(2) ? INT32_MAX : other;
+}
+
+/* A triangle that is flat, has a corner, its frames or a spare word out of their rule, or several of these. */
+static void damage_triangle(struct table *table)
+{
+    int32_t *row = some_row_of(table, is_triangle);
+    do
+        switch (below(7)) {
+        case 0: burst(row); break;
+        case 1: damage_spare_word(row); break;
+        case 2: try_bound(row, Z); break;
+        case 3: case 4: flatten(row); break;
+        default: push_corner(row); break;
+        }
+    while (one_in(3));
 }
 
 /* With 256 rows and one more, a count of rows in 8 bits wraps to none and to one. */
@@ -111,13 +173,14 @@ static void damage_row(struct table *table)
 {
     int32_t *row = some_row(table);
     size_t at = below(ROW_WORDS);
-    switch (below(10)) {
+    switch (below(14)) {
     case 0: swap_rows(table); break;
-    case 1: damage_spare_word(table); break;
+    case 1: damage_spare_word(row); break;
     case 2: row[KIND] = (int32_t)ONE_OF(KINDS, KINDS + 1, -1, INT32_MIN, INT32_MAX, between(0, KINDS - 1)); break;
     case 3: case 4: damage_child(table); break;
     case 5: case 6: try_rule(table); break;
-    case 7: at = 1 + below(fields_of(row[KIND])); row[at] = any_bad_word(row, at); break;
+    case 7: case 8: case 9: case 10: damage_triangle(table); break;
+    case 11: at = 1 + below(fields_of(row[KIND])); row[at] = any_bad_word(row, at); break;
     default: row[at] = any_bad_word(row, at); break;
     }
 }

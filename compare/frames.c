@@ -16,7 +16,7 @@ static size_t any_length(void)
 }
 
 /* A code for each sample, in one of several manners; the holder keeps it to 16 bits. */
-static void put_codes(int16_t *code, size_t samples, const struct table *table)
+static void put_codes(int16_t *code, size_t samples, int64_t first, const struct table *table)
 {
     unsigned manner = (unsigned)below(6);
     int64_t one = any_aim(table, Y), other = any_aim(table, Y), at = one;
@@ -27,7 +27,7 @@ static void put_codes(int16_t *code, size_t samples, const struct table *table)
         case 1: at += step; break;
         case 2: at = k % 2 == 0 ? one : other; break;
         case 3: at += between(-2, 2); break;
-        case 4: at = k < 4096 ? any_aim(table, Y) : at + between(-2, 2); break;
+        case 4: at = k < 4096 ? any_code_at(table, first + (int64_t)k) : at + between(-2, 2); break;
         default: at = one + between(-1, 1); break;
         }
         code[k] = (int16_t)in_range(Y, at);
@@ -50,9 +50,9 @@ static void breach(int16_t *code, size_t samples, struct lampholly_window window
 }
 
 /* The codes of a frame, mostly within the window. */
-void any_codes(int16_t *code, size_t samples, const struct table *table, struct lampholly_window window)
+void any_codes(int16_t *code, size_t samples, int64_t first, const struct table *table, struct lampholly_window window)
 {
-    put_codes(code, samples, table);
+    put_codes(code, samples, first, table);
     if (!one_in(8))
         keep_codes(code, samples, window);
     if (samples > 0 && one_in(5))
@@ -92,7 +92,7 @@ void any_frame(struct frame *frame, const struct table *table, struct lampholly_
     frame->samples = any_length();
     frame->first = (int32_t)any_first(frame->samples, table, window);
     frame->number = (int32_t)any_number(table, window);
-    any_codes(frame->code, frame->samples, table, window);
+    any_codes(frame->code, frame->samples, frame->first, table, window);
 }
 
 /* One code in all columns, or in all but the last, at the middle of the zone's first box. */

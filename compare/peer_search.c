@@ -1,13 +1,28 @@
 /* Peers: searches that evaluate every sample on its own. */
 #include "peers.h"
 
-static int in_primitive(const int32_t *row, int64_t x, int64_t y, int64_t z)
+static int in_box(const struct peer_box *box, int64_t x, int64_t y, int64_t z)
 {
+    return box->lo[X] <= x && x <= box->hi[X] && box->lo[Y] <= y && y <= box->hi[Y] && box->lo[Z] <= z && z <= box->hi[Z];
+}
+
+static int in_edges(const struct peer_edge *edge, int64_t x, int64_t y)
+{
+    return edge[0].a * x + edge[0].b * y + edge[0].c >= 0
+        && edge[1].a * x + edge[1].b * y + edge[1].c >= 0
+        && edge[2].a * x + edge[2].b * y + edge[2].c >= 0;
+}
+
+static int in_primitive(const struct peer_zone *zone, int32_t number, int64_t x, int64_t y, int64_t z)
+{
+    const int32_t *row = zone->words[number];
     if (row[KIND] == DRUM) {
         int64_t dx = x - row[CENTRE + X], dy = y - row[CENTRE + Y];
         int64_t rx = (int64_t)row[RADIUS + X] * row[RADIUS + X], ry = (int64_t)row[RADIUS + Y] * row[RADIUS + Y];
         return row[BOUND + LO(Z)] <= z && z <= row[BOUND + HI(Z)] && ry * dx * dx + rx * dy * dy <= rx * ry;
     }
+    if (row[KIND] == TRIANGLE)
+        return in_box(&zone->box[number], x, y, z) && in_edges(zone->edge[number], x, y);
     if (x < row[BOUND + LO(X)] || row[BOUND + HI(X)] < x || y < row[BOUND + LO(Y)] || row[BOUND + HI(Y)] < y
         || z < row[BOUND + LO(Z)] || row[BOUND + HI(Z)] < z)
         return 0;
@@ -33,7 +48,7 @@ static int in_tree(const struct peer_zone *zone, int32_t number, int64_t x, int6
     case UNION: return in_tree(zone, row->left, x, y, z) || in_tree(zone, row->right, x, y, z);
     case INTER: return in_tree(zone, row->left, x, y, z) && in_tree(zone, row->right, x, y, z);
     case DIFF: return in_tree(zone, row->left, x, y, z) && !in_tree(zone, row->right, x, y, z);
-    default: return in_primitive(zone->words[row->left], x, y, z);
+    default: return in_primitive(zone, row->left, x, y, z);
     }
 }
 
@@ -134,10 +149,10 @@ static struct lampholly_answer check_samples(const uint64_t *list, const int16_t
 static int in_product(const struct peer_zone *zone, const uint64_t *product, int64_t x, int64_t y, int64_t z)
 {
     for (uint64_t left = product[UNCOMPLEMENTED]; left != 0; left &= left - 1)
-        if (!in_primitive(zone->words[__builtin_ctzll(left)], x, y, z))
+        if (!in_primitive(zone, __builtin_ctzll(left), x, y, z))
             return 0;
     for (uint64_t left = product[COMPLEMENTED]; left != 0; left &= left - 1)
-        if (in_primitive(zone->words[__builtin_ctzll(left)], x, y, z))
+        if (in_primitive(zone, __builtin_ctzll(left), x, y, z))
             return 0;
     return 1;
 }
@@ -154,7 +169,7 @@ static int in_list_by_mask(const struct peer_zone *zone, const uint64_t *list, i
 {
     uint64_t around = 0;
     for (int32_t i = 0; i < zone->primitives; i++)
-        around |= (uint64_t)in_primitive(zone->words[i], x, y, z) << i;
+        around |= (uint64_t)in_primitive(zone, i, x, y, z) << i;
     for (uint64_t k = 0; k < list[LIST_PRODUCTS]; k++) {
         const uint64_t *product = list + list_words(k);
         if ((product[UNCOMPLEMENTED] & ~around) == 0 && (product[COMPLEMENTED] & around) == 0)

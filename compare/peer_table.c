@@ -25,13 +25,21 @@ static int is_interval(int axis, int64_t lo, int64_t hi)
 
 static int has_bounds(const int32_t *row, int axis)
 {
-    return is_interval(axis, row[BOUND + LO(axis)], row[BOUND + HI(axis)]);
+    return is_interval(axis, row[bound_word(row[KIND], LO(axis))], row[bound_word(row[KIND], HI(axis))]);
 }
 
 static int is_round(const int32_t *row, int axis)
 {
     int64_t centre = row[CENTRE + axis], radius = row[RADIUS + axis];
     return LEAST_RADIUS <= radius && radius <= GREATEST_RADIUS && is_interval(axis, centre - radius, centre + radius);
+}
+
+static int has_corners(const int32_t *row)
+{
+    int good = 1;
+    for (int corner = 0; corner < CORNERS; corner++)
+        good = good && is_coordinate(X, row[CORNER(corner, X)]) && is_coordinate(Y, row[CORNER(corner, Y)]);
+    return good && twice_area(row) != 0;
 }
 
 static int fields_are_good(const int32_t *row)
@@ -41,6 +49,9 @@ static int fields_are_good(const int32_t *row)
     switch (row[KIND]) {
     case DRUM:
         good = is_round(row, X) && is_round(row, Y) && has_bounds(row, Z);
+        break;
+    case TRIANGLE:
+        good = has_corners(row) && has_bounds(row, Z);
         break;
     case WEDGE:
         good = is_slope(a) && is_slope(b) && is_slope(c) && (a | b | c) != 0;
@@ -78,6 +89,18 @@ struct lampholly_answer peer_check(const int32_t *table, size_t words)
     return peer_done(0);
 }
 
+/* Each side as a sum, turned so that it is above 0 within the triangle. */
+static void open_edges(struct peer_edge *edge, const int32_t *words)
+{
+    int64_t sign = twice_area(words) > 0 ? 1 : -1;
+    for (int corner = 0; corner < CORNERS; corner++) {
+        const int32_t *from = words + CORNER(corner, X), *to = words + CORNER(next_corner(corner), X);
+        edge[corner].a = sign * (from[Y] - to[Y]);
+        edge[corner].b = sign * (to[X] - from[X]);
+        edge[corner].c = sign * edge_side(words, corner, 0, 0);
+    }
+}
+
 static void open_primitive(struct peer_zone *zone, struct peer_row *row, const int32_t *words)
 {
     struct box box = box_of(words);
@@ -88,6 +111,8 @@ static void open_primitive(struct peer_zone *zone, struct peer_row *row, const i
         zone->box[number].lo[axis] = (int32_t)box.lo[axis];
         zone->box[number].hi[axis] = (int32_t)box.hi[axis];
     }
+    if (words[KIND] == TRIANGLE)
+        open_edges(zone->edge[number], words);
 }
 
 struct lampholly_answer peer_open(const int32_t *table, size_t words, struct peer_zone *zone)

@@ -12,12 +12,18 @@ struct peer_row {
     int32_t kind, left, right; /* of a primitive, left is its number */
 };
 
-/* A sound table, taken apart. */
+/* An edge of a triangle: on it and on its inner side a * x + b * y + c is not below 0. */
+struct peer_edge {
+    int64_t a, b, c;
+};
+
+/* A sound table, taken apart. Only triangles have edges. */
 struct peer_zone {
     int32_t rows, primitives;
     struct peer_row row[MOST_ROWS];
     const int32_t *words[MOST_PRIMITIVES];
     struct peer_box box[MOST_PRIMITIVES];
+    struct peer_edge edge[MOST_PRIMITIVES][CORNERS];
 };
 
 /* A product, or a choice on the way to one. */

@@ -129,20 +129,48 @@ static struct choices choices_out(const struct zone *zone, size_t number)
 
 /* Boxes. */
 
+static int64_t least(int64_t one, int64_t other)
+{
+    return one < other ? one : other;
+}
+
+static int64_t greatest(int64_t one, int64_t other)
+{
+    return one > other ? one : other;
+}
+
 static struct box box_of_window(struct plain_window w)
 {
     struct box box = {{w.xlo, w.ylo, w.zlo}, {w.xhi, w.yhi, w.zhi}};
     return box;
 }
 
+static void bound_by_radius(struct box *box, const int32_t *row, int axis)
+{
+    int64_t centre = row[CENTRE + axis], radius = row[RADIUS + axis];
+    box->lo[axis] = centre - radius;
+    box->hi[axis] = centre + radius;
+}
+
+static void bound_by_corners(struct box *box, const int32_t *row, int axis)
+{
+    int64_t one = row[CORNER(0, axis)], two = row[CORNER(1, axis)], three = row[CORNER(2, axis)];
+    box->lo[axis] = least(one, least(two, three));
+    box->hi[axis] = greatest(one, greatest(two, three));
+}
+
 static struct box box_of_primitive(const int32_t *row)
 {
     struct box box;
     for (int axis = X; axis < AXES; axis++) {
-        int64_t centre = row[CENTRE + axis], radius = row[RADIUS + axis];
-        int is_round = row[KIND] == DRUM && axis != Z;
-        box.lo[axis] = is_round ? centre - radius : row[BOUND + LO(axis)];
-        box.hi[axis] = is_round ? centre + radius : row[BOUND + HI(axis)];
+        if (row[KIND] == DRUM && axis != Z) {
+            bound_by_radius(&box, row, axis);
+        } else if (row[KIND] == TRIANGLE && axis != Z) {
+            bound_by_corners(&box, row, axis);
+        } else {
+            box.lo[axis] = row[bound_word(row[KIND], LO(axis))];
+            box.hi[axis] = row[bound_word(row[KIND], HI(axis))];
+        }
     }
     return box;
 }
@@ -151,8 +179,8 @@ static struct box box_cut_with(struct box one, struct box other)
 {
     struct box cut;
     for (int axis = X; axis < AXES; axis++) {
-        cut.lo[axis] = one.lo[axis] > other.lo[axis] ? one.lo[axis] : other.lo[axis];
-        cut.hi[axis] = one.hi[axis] < other.hi[axis] ? one.hi[axis] : other.hi[axis];
+        cut.lo[axis] = greatest(one.lo[axis], other.lo[axis]);
+        cut.hi[axis] = least(one.hi[axis], other.hi[axis]);
     }
     return cut;
 }

@@ -34,7 +34,7 @@ int plain_is_refused(struct plain_answer answer)
 
 static int bounds_keep_rule(const int32_t *row, int axis)
 {
-    int32_t lo = row[BOUND + LO(axis)], hi = row[BOUND + HI(axis)];
+    int32_t lo = row[bound_word(row[KIND], LO(axis))], hi = row[bound_word(row[KIND], HI(axis))];
     return is_coordinate(axis, lo) && is_coordinate(axis, hi) && lo <= hi;
 }
 
@@ -66,12 +66,27 @@ static int drum_keeps_rule(const int32_t *row)
     return round_keeps_rule(row, X) && round_keeps_rule(row, Y) && bounds_keep_rule(row, Z);
 }
 
+static int corners_are_coordinates(const int32_t *row)
+{
+    for (int corner = 0; corner < CORNERS; corner++)
+        if (!is_coordinate(X, row[CORNER(corner, X)]) || !is_coordinate(Y, row[CORNER(corner, Y)]))
+            return 0;
+    return 1;
+}
+
+/* Only corners in range have an area that 64 bits are sure to hold. */
+static int triangle_keeps_rule(const int32_t *row)
+{
+    return corners_are_coordinates(row) && twice_area(row) != 0 && bounds_keep_rule(row, Z);
+}
+
 static int fields_keep_rule(const int32_t *row)
 {
     switch (row[KIND]) {
     case BOX: return box_keeps_rule(row);
     case WEDGE: return wedge_keeps_rule(row);
     case DRUM: return drum_keeps_rule(row);
+    case TRIANGLE: return triangle_keeps_rule(row);
     default: return 1; /* children have refusal 4 */
     }
 }

@@ -8,7 +8,8 @@ static int64_t square(int64_t value)
 
 static int in_bounds(const int32_t *row, int axis, struct point p)
 {
-    return row[BOUND + LO(axis)] <= p.at[axis] && p.at[axis] <= row[BOUND + HI(axis)];
+    int32_t lo = row[bound_word(row[KIND], LO(axis))], hi = row[bound_word(row[KIND], HI(axis))];
+    return lo <= p.at[axis] && p.at[axis] <= hi;
 }
 
 static int in_box(const int32_t *row, struct point p)
@@ -31,12 +32,21 @@ static int in_drum(const int32_t *row, struct point p)
         && square(ry) * square(p.at[X] - cx) + square(rx) * square(p.at[Y] - cy) <= square(rx) * square(ry);
 }
 
+/* Whichever way round the corners run, edges and corners belong to it. */
+static int in_triangle(const int32_t *row, struct point p)
+{
+    int64_t x = p.at[X], y = p.at[Y];
+    int64_t one = edge_side(row, 0, x, y), two = edge_side(row, 1, x, y), three = edge_side(row, 2, x, y);
+    return in_bounds(row, Z, p) && ((one >= 0 && two >= 0 && three >= 0) || (one <= 0 && two <= 0 && three <= 0));
+}
+
 int plain_in_primitive(const int32_t *row, struct point point)
 {
     switch (row[KIND]) {
     case BOX: return in_box(row, point);
     case WEDGE: return in_wedge(row, point);
-    default: return in_drum(row, point);
+    case DRUM: return in_drum(row, point);
+    default: return in_triangle(row, point);
     }
 }
 

@@ -7,8 +7,8 @@
 static int64_t marks[AXES][MARKS];
 static unsigned seldom_wide[AXES];
 
-/* How seldom a primitive of the zone is a wedge or a drum; drums are small and miss much. */
-static unsigned seldom_wedge, seldom_drum;
+/* How seldom a primitive of the zone is a wedge, a drum or a triangle; drums are small and miss much. */
+static unsigned seldom_wedge, seldom_drum, seldom_triangle;
 
 /* Where the text of a number gets a digit more: a power of ten, or one less, or the same below 0. */
 static int64_t any_new_digit(void)
@@ -49,6 +49,7 @@ void any_marks(void)
     }
     seldom_wedge = (unsigned)ONE_OF(1, 3, 5, 20);
     seldom_drum = (unsigned)ONE_OF(2, 6, 20, 60);
+    seldom_triangle = (unsigned)ONE_OF(2, 4, 8, 30);
 }
 
 static int64_t any_edge(int axis)
@@ -66,8 +67,8 @@ static void put_bounds(int32_t *row, int axis)
         lo = edge < lo ? edge : lo;
         hi = edge > hi ? edge : hi;
     }
-    row[BOUND + LO(axis)] = (int32_t)lo;
-    row[BOUND + HI(axis)] = (int32_t)hi;
+    row[bound_word(row[KIND], LO(axis))] = (int32_t)lo;
+    row[bound_word(row[KIND], HI(axis))] = (int32_t)hi;
 }
 
 static void put_box(int32_t *row)
@@ -139,6 +140,62 @@ static void put_drum(int32_t *row)
     put_bounds(row, Z);
 }
 
+/* Where an axis ends, or one before that. */
+static int64_t any_end(int axis)
+{
+    return ONE_OF(limits[axis].least, limits[axis].least + 1, limits[axis].greatest - 1, limits[axis].greatest);
+}
+
+/* Three corners; or, with two edges along the axes, a right angle at one of them. */
+static void put_corners(int32_t *row, int64_t (*any_place)(int axis))
+{
+    for (int corner = 0; corner < CORNERS; corner++)
+        for (int axis = X; axis <= Y; axis++)
+            row[CORNER(corner, axis)] = (int32_t)any_place(axis);
+    if (one_in(3)) {
+        int right = (int)below(CORNERS), next = next_corner(right);
+        row[CORNER(next, Y)] = row[CORNER(right, Y)];
+        row[CORNER(next_corner(next), X)] = row[CORNER(right, X)];
+    }
+}
+
+/* Takes two corners far away from the first: their sum in place of one of them keeps the area. */
+static void take_away(int64_t away[CORNERS][2])
+{
+    for (uint64_t turns = below(60); turns > 0; turns--) {
+        int64_t x = away[1][X] + away[2][X], y = away[1][Y] + away[2][Y], moved = between(1, 2);
+        if (x > (int64_t)greatest_word(X) || y > (int64_t)greatest_word(Y))
+            return;
+        away[moved][X] = x;
+        away[moved][Y] = y;
+    }
+}
+
+/* Twice the area is 1 or -1, and the edges are mostly long. */
+static void put_sliver(int32_t *row)
+{
+    int64_t away[CORNERS][2] = {{0, 0}, {1, 0}, {0, 1}};
+    take_away(away);
+    for (int axis = X; axis <= Y; axis++) {
+        int64_t most = away[1][axis] > away[2][axis] ? away[1][axis] : away[2][axis];
+        int64_t start = clamped(any_edge(axis), limits[axis].least, limits[axis].greatest - most);
+        int is_mirrored = one_in(2);
+        for (int corner = 0; corner < CORNERS; corner++)
+            row[CORNER(corner, axis)] = (int32_t)(start + (is_mirrored ? most - away[corner][axis] : away[corner][axis]));
+    }
+}
+
+static void put_triangle(int32_t *row)
+{
+    do {
+        if (one_in(8))
+            put_sliver(row);
+        else
+            put_corners(row, one_in(4) ? any_end : any_edge);
+    } while (twice_area(row) == 0);
+    put_bounds(row, Z);
+}
+
 /* Fills a row of zeros with a box over all columns. */
 void any_long_box(int32_t *row)
 {
@@ -151,11 +208,12 @@ void any_long_box(int32_t *row)
 /* Fills a row of zeros. */
 void any_primitive(int32_t *row)
 {
-    row[KIND] = one_in(seldom_drum) ? DRUM : one_in(seldom_wedge) ? WEDGE : BOX;
+    row[KIND] = one_in(seldom_triangle) ? TRIANGLE : one_in(seldom_drum) ? DRUM : one_in(seldom_wedge) ? WEDGE : BOX;
     switch (row[KIND]) {
     case BOX: put_box(row); break;
     case WEDGE: put_wedge(row); break;
-    default: put_drum(row); break;
+    case DRUM: put_drum(row); break;
+    default: put_triangle(row); break;
     }
 }
 
@@ -165,15 +223,28 @@ size_t fields_of(int32_t kind)
     return kinds[is_kind(kind) ? kind : UNION].fields;
 }
 
+static void span_corners(struct box *box, const int32_t *row, int axis)
+{
+    box->lo[axis] = box->hi[axis] = row[CORNER(0, axis)];
+    for (int corner = 1; corner < CORNERS; corner++) {
+        int64_t at = row[CORNER(corner, axis)];
+        box->lo[axis] = at < box->lo[axis] ? at : box->lo[axis];
+        box->hi[axis] = at > box->hi[axis] ? at : box->hi[axis];
+    }
+}
+
 struct box box_of(const int32_t *row)
 {
     struct box box;
     for (int axis = X; axis < AXES; axis++) {
-        box.lo[axis] = row[BOUND + LO(axis)];
-        box.hi[axis] = row[BOUND + HI(axis)];
         if (row[KIND] == DRUM && axis != Z) {
             box.lo[axis] = (int64_t)row[CENTRE + axis] - row[RADIUS + axis];
             box.hi[axis] = (int64_t)row[CENTRE + axis] + row[RADIUS + axis];
+        } else if (row[KIND] == TRIANGLE && axis != Z) {
+            span_corners(&box, row, axis);
+        } else {
+            box.lo[axis] = row[bound_word(row[KIND], LO(axis))];
+            box.hi[axis] = row[bound_word(row[KIND], HI(axis))];
         }
     }
     return box;

@@ -1,5 +1,5 @@
 /* The numbers of the rules (docs/RULES.md), each said once: what each axis holds, the kinds, what stands where in a table
-   and in a list, and how much of anything there may be. */
+   and in a list, the side of a triangle's edge, and how much of anything there may be. */
 #ifndef RULES_H
 #define RULES_H
 
@@ -41,7 +41,7 @@ static inline int is_coordinate(int axis, int64_t value)
 #define BOUNDS (2 * AXES)
 
 /* The kinds of rows, with their names in text and how many words from word 1 on each names (section 2). */
-enum { BOX, WEDGE, DRUM, UNION, INTER, DIFF, KINDS };
+enum { BOX, WEDGE, DRUM, UNION, INTER, DIFF, TRIANGLE, KINDS };
 
 struct kind {
     const char *name;
@@ -50,7 +50,7 @@ struct kind {
 
 static const struct kind kinds[KINDS] = {
     [BOX] = {"box", 6}, [WEDGE] = {"wedge", 10}, [DRUM] = {"drum", 6},
-    [UNION] = {"union", 2}, [INTER] = {"inter", 2}, [DIFF] = {"diff", 2},
+    [UNION] = {"union", 2}, [INTER] = {"inter", 2}, [DIFF] = {"diff", 2}, [TRIANGLE] = {"tri", 8},
 };
 
 static inline int is_kind(int32_t kind)
@@ -78,6 +78,34 @@ enum { KIND = 0 };
 enum { BOUND = 1, SLOPE = 7, LIMIT = 10 }; /* BOUND + LO(axis), BOUND + HI(axis); a wedge's SLOPE + axis */
 enum { CENTRE = 1, RADIUS = 3 };           /* a drum's, plus the axis, X or Y; on Z it has bounds */
 enum { LEFT = 1, RIGHT = 2 };
+
+/* A triangle's corners, counted from 0, on X and Y; on Z it has bounds. */
+#define CORNERS 3
+#define CORNER(corner, axis) (1 + 2 * (corner) + (axis))
+
+static inline int next_corner(int corner)
+{
+    return (corner + 1) % CORNERS;
+}
+
+/* The word of a bound, by the row's kind: a triangle's frames stand behind its corners. */
+static inline size_t bound_word(int32_t kind, int bound)
+{
+    return (size_t)(kind == TRIANGLE ? CORNER(CORNERS, X) + bound - LO(Z) : BOUND + bound);
+}
+
+/* The side of the edge from this corner to the next, at a point; with coordinates it is less than 2^33 from 0. */
+static inline int64_t edge_side(const int32_t *row, int corner, int64_t x, int64_t y)
+{
+    int64_t ax = row[CORNER(corner, X)], bx = row[CORNER(next_corner(corner), X)];
+    int64_t ay = row[CORNER(corner, Y)], by = row[CORNER(next_corner(corner), Y)];
+    return (ax - x) * (by - y) - (bx - x) * (ay - y);
+}
+
+static inline int64_t twice_area(const int32_t *row)
+{
+    return edge_side(row, 0, row[CORNER(2, X)], row[CORNER(2, Y)]);
+}
 
 #define LEAST_SLOPE (-32768)
 #define GREATEST_SLOPE 32767

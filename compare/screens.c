@@ -55,8 +55,8 @@ void any_screen(struct screen *screen, const struct table *table, struct lamphol
     screen->first = (int32_t)any_first(length, table, window);
     screen->number = (int32_t)any_start(frames, table, window);
     for (size_t j = 0; j < frames; j++)
-        any_codes(screen->code + j * length, length, table, window);
-    any_codes(screen->code + frames * length, rest, table, window);
+        any_codes(screen->code + j * length, length, screen->first, table, window);
+    any_codes(screen->code + frames * length, rest, screen->first, table, window);
     if (one_in(16))
         miscount(screen);
 }

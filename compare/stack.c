@@ -78,18 +78,23 @@ static const struct work {
     {"read_text", read_text}, {"write_text", write_text},
 };
 
-/* 64 primitives of that kind, with the longest numbers that the rules let pass, and 63 unions in a chain. */
-static void put_chain(int32_t kind)
+/* Each with the longest numbers that the rules let pass. */
+enum { BOXES, WEDGES, TRIANGLES, CHAINS };
+
+static const int32_t primitive[CHAINS][ROW_WORDS] = {
+    [BOXES] = {BOX, FULL_RANGE},
+    [WEDGES] = {WEDGE, FULL_RANGE, LEAST_SLOPE, LEAST_SLOPE, LEAST_SLOPE, INT32_MIN},
+    [TRIANGLES] = {TRIANGLE, LEAST_COLUMN, LEAST_CODE, LEAST_COLUMN, GREATEST_CODE, GREATEST_COLUMN, LEAST_CODE, ALL_FRAMES},
+};
+
+/* 64 times that primitive, and 63 unions in a chain. */
+static void put_chain(int chain)
 {
-    static const int32_t words[2][ROW_WORDS] = {
-        {BOX, FULL_RANGE},
-        {WEDGE, FULL_RANGE, LEAST_SLOPE, LEAST_SLOPE, LEAST_SLOPE, INT32_MIN},
-    };
     for (int32_t row = 0; row < MOST_ROWS; row++) {
         int32_t *word = table + table_words((size_t)row);
         memset(word, 0, ROW_WORDS * sizeof word[0]);
         if (row < 2 || row % 2 == 1) {
-            memcpy(word, words[kind], sizeof words[kind]);
+            memcpy(word, primitive[chain], sizeof primitive[chain]);
         } else {
             word[KIND] = UNION;
             word[LEFT] = row == 2 ? 0 : row - 2;
@@ -128,9 +133,9 @@ static size_t taken(void (*call)(void))
 }
 
 /* The calls that ask a list or read a text need one. */
-static void prepare(int32_t kind)
+static void prepare(int chain)
 {
-    put_chain(kind);
+    put_chain(chain);
     make_list();
     list_length = answer.value;
     write_text();
@@ -140,16 +145,17 @@ static void prepare(int32_t kind)
 int main(void)
 {
     int fits = 1;
-    printf("%-20s %8s %8s\n", "call", "boxes", "wedges");
+    printf("%-20s %9s %9s %9s\n", "call", "boxes", "wedges", "triangles");
     for (size_t i = 0; i < sizeof works / sizeof works[0]; i++) {
-        size_t bytes[2];
-        for (int32_t kind = BOX; kind <= WEDGE; kind++) {
-            prepare(kind);
-            bytes[kind] = taken(works[i].call);
+        printf("%-20s", works[i].name);
+        for (int chain = 0; chain < CHAINS; chain++) {
+            prepare(chain);
+            size_t bytes = taken(works[i].call);
+            printf(" %9zu", bytes);
+            if (works[i].call == write_text && bytes > PANEL_BYTES / 2)
+                fits = 0;
         }
-        printf("%-20s %8zu %8zu\n", works[i].name, bytes[BOX], bytes[WEDGE]);
-        if (works[i].call == write_text)
-            fits = bytes[BOX] <= PANEL_BYTES / 2 && bytes[WEDGE] <= PANEL_BYTES / 2;
+        printf("\n");
     }
     return fits ? 0 : 1;
 }

@@ -31,6 +31,13 @@ static uint64_t answered[CALLS][2], refused[CALLS][REFUSALS + 1];
 /* Triples by what they tell. */
 static uint64_t told[TOLD];
 
+/* What can be met of triangles: corners that run one way round and the other, hits on an edge, fields out of their rule. */
+enum { ONE_WAY_ROUND, OTHER_WAY_ROUND, HIT_ON_EDGE, TRIANGLE_3, MET };
+
+static const char *const met_name[MET] = {"one way round", "the other way round", "hit on an edge", "refused 3"};
+
+static uint64_t met[MET];
+
 static int asks_point(enum call call)
 {
     return call == TREE_POINT || call == LIST_POINT;
@@ -47,12 +54,59 @@ static int is_inside(enum call call, struct plain_answer answer)
     return asks_point(call) ? answer.value != 0 : answer.count != 0;
 }
 
-void tally(enum call call, struct plain_answer answer)
+/* On an edge, one side is 0 and no two others are on different sides of 0. */
+static int is_on_edge(const int32_t *row, struct point point)
 {
+    int is_zero = 0, is_above = 0, is_under = 0;
+    for (int corner = 0; corner < CORNERS; corner++) {
+        int64_t side = edge_side(row, corner, point.at[X], point.at[Y]);
+        is_zero |= side == 0;
+        is_above |= side > 0;
+        is_under |= side < 0;
+    }
+    return is_zero && !(is_above && is_under)
+        && row[bound_word(TRIANGLE, LO(Z))] <= point.at[Z] && point.at[Z] <= row[bound_word(TRIANGLE, HI(Z))];
+}
+
+/* The point that is inside, or the first such sample. */
+static struct point hit_of(const struct question *q, struct plain_answer answer)
+{
+    if (asks_point(q->call))
+        return q->point;
+    struct point hit = {{q->frame->first + (int32_t)answer.value, q->frame->code[answer.value], q->frame->number}};
+    return hit;
+}
+
+/* A triangle of a table that is sound. */
+static void tally_triangle(const int32_t *row, const struct question *q, struct plain_answer answer)
+{
+    if (q->call == CHECK)
+        met[twice_area(row) > 0 ? ONE_WAY_ROUND : OTHER_WAY_ROUND]++;
+    if (is_inside(q->call, answer) && is_on_edge(row, hit_of(q, answer)))
+        met[HIT_ON_EDGE]++;
+}
+
+static void tally_table(const struct question *q, struct plain_answer answer)
+{
+    const struct table *table = q->table;
+    if (answer.refusal == 3 && table->word[table_words(answer.value) + KIND] == TRIANGLE)
+        met[TRIANGLE_3]++;
+    for (size_t number = 0; answer.refusal == 0 && number < rows_in(table->words); number++) {
+        const int32_t *row = table->word + table_words(number);
+        if (row[KIND] == TRIANGLE)
+            tally_triangle(row, q, answer);
+    }
+}
+
+void tally(const struct question *question, struct plain_answer answer)
+{
+    enum call call = question->call;
     if (answer.refusal == 0)
         answered[call][is_inside(call, answer)]++;
     else
         refused[call][answer.refusal]++;
+    if (question->table != NULL)
+        tally_table(question, answer);
 }
 
 void tally_triple(const uint32_t *triple)
@@ -79,6 +133,12 @@ static uint64_t calls_asked(void)
     return asked;
 }
 
+static void print_counts(const char *what, const char *const *name, const uint64_t *seen, int count)
+{
+    for (int i = 0; i < count; i++)
+        printf("%s %s: %" PRIu64, i == 0 ? what : ",", name[i], seen[i]);
+}
+
 void print_tally(uint64_t seed, uint64_t cases)
 {
     printf("differ: seed %" PRIu64 ", %" PRIu64 " cases, %" PRIu64 " calls agree;", seed, cases, calls_asked());
@@ -95,26 +155,28 @@ void print_tally(uint64_t seed, uint64_t cases)
             seen += refused[call][number];
         printf("%s %d: %" PRIu64, number == 1 ? "" : ",", number, seen);
     }
-    for (int what = 0; what < TOLD; what++)
-        printf("%s %s: %" PRIu64, what == 0 ? "; triples" : ",", told_name[what], told[what]);
+    print_counts("; triples", told_name, told, TOLD);
+    print_counts("; triangles", met_name, met, MET);
     printf("\n");
 }
 
-static int is_all_told(void)
+static int is_each_seen(const char *what, const char *const *name, const uint64_t *seen, int count)
 {
     int all = 1;
-    for (int what = 0; what < TOLD; what++)
-        if (told[what] == 0) {
-            printf("differ: a triple that tells %s was never seen\n", told_name[what]);
+    for (int i = 0; i < count; i++)
+        if (seen[i] == 0) {
+            printf("differ: a %s %s was never seen\n", what, name[i]);
             all = 0;
         }
     return all;
 }
 
-/* Was every answer and refusal that the rules give a call seen of it, and all that a triple can tell? Names what was not. */
+/* Was every answer and refusal that the rules give a call seen of it, all that a triple can tell, and all that can be met of a
+   triangle? Names what was not. */
 int is_all_seen(void)
 {
-    int all = is_all_told();
+    int all = is_each_seen("triple that tells", told_name, told, TOLD);
+    all = is_each_seen("triangle", met_name, met, MET) && all;
     for (int call = 0; call < CALLS; call++) {
         if (answered[call][0] == 0 || (asks_inside(call) && answered[call][1] == 0)) {
             printf("differ: an answer of %s was never seen\n", call_name[call]);

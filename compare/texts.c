@@ -100,7 +100,8 @@ static const char *const bad_numbers[] = {
 
 static const char *const bad_names[] = {
     "", "bo", "boxx", "Box", "BOX", "box ", " box", "wedg", "wedges", "drums", "unions", "inte", "intersection", "dif", "difff",
-    "cone", "zone", "0", "box", "wedge", "drum", "union", "inter", "diff",
+    "tr", "tria", "trj", "Tri", "TRI", "tri ", "triangle", "cone", "zone", "0", "box", "wedge", "drum", "union", "inter", "diff",
+    "tri",
 };
 
 static const char *const bad_counts[] = {
@@ -113,7 +114,8 @@ static const char *const bad_bytes[] = {
 };
 
 static const char *const bad_tails[] = {
-    "\n", "\t", " ", "0", "box\t0\t0\t0\t0\t0\t0\n", "union\t0\t1\n", "zone\t1\n", "\n\n", "#", "diff",
+    "\n", "\t", " ", "0", "box\t0\t0\t0\t0\t0\t0\n", "tri\t0\t0\t1\t0\t0\t1\t0\t0\n", "union\t0\t1\n", "zone\t1\n", "\n\n", "#",
+    "diff",
 };
 
 #define SOME(words) ((words)[below(sizeof(words) / sizeof((words)[0]))])
@@ -196,10 +198,24 @@ static void lengthen(struct text *text)
     text->bytes = wanted;
 }
 
+/* A name that is nearly right: a letter short or long, the next letter for its last one, a capital for its first. */
+static void misspell(struct text *text)
+{
+    struct part name = part_about(text, some_line(text).start, ends_field);
+    if (name.start == name.end)
+        return;
+    switch (below(4)) {
+    case 0: replace(text, name.end - 1, name.end, ""); break;
+    case 1: replace(text, name.end, name.end, "a"); break;
+    case 2: text->byte[name.end - 1]++; break;
+    default: text->byte[name.start] ^= 'a' ^ 'A'; break;
+    }
+}
+
 static void damage_text_once(struct text *text)
 {
     struct part field = some_field(text);
-    switch (below(11)) {
+    switch (below(13)) {
     case 0: damage_first_line(text); break;
     case 1: case 2: damage_line(text); break;
     case 3: case 4: damage_byte(text); break;
@@ -207,6 +223,8 @@ static void damage_text_once(struct text *text)
     case 6: text->bytes = one_in(3) ? below(text->bytes + 1) : text->bytes > 0 ? text->bytes - 1 : 0; break;
     case 7: replace(text, field.start, field.end, SOME(bad_names)); break;
     case 8: damage_separator(text); break;
+    case 9: misspell(text); break;
+    case 10: replace(text, field.start > 0 ? field.start - 1 : 0, field.end, ""); break; /* a field too few */
     default: replace(text, field.start, field.end, SOME(bad_numbers)); break;
     }
 }

@@ -190,6 +190,26 @@ static const struct walk steep_walks[] = {
     {"the range, and half of its frames", {FULL_RANGE}, Z, 524288, -524288, 2},
 };
 
+static const int32_t triangle_rows[][ROW_WORDS] = {
+    {TRIANGLE, 0, 0, 9, 0, 0, 9}, {BOX, 9, 12, 9, 9}, {DIFF, 0, 1},
+};
+
+static const struct walk triangle_walks[] = {
+    {"a column at a time over the column where the boxes of T and B meet", {5, 8, 7, 10, 0, 0}, X, 1, 1, 6},
+    {"a code at a time over the code where they meet", {7, 10, 5, 8, 0, 0}, Y, 1, 1, 6},
+    {"single points along that code", {7, 7, 9, 9, 0, 0}, X, 1, 1, 4},
+    {"single points along that column", {9, 9, 7, 7, 0, 0}, Y, 1, 1, 4},
+    {"a column at a time over the long edge of T", {1, 3, 3, 5, 0, 0}, X, 1, 1, 6},
+    {"a code at a time over the long edge of T", {6, 7, 0, 1, 0, 0}, Y, 1, 1, 4},
+    {"growing over columns up to B", {0, 7, 0, 9, 0, 0}, X, 0, 1, 4},
+    {"growing over codes up to B", {0, 12, 0, 7, 0, 0}, Y, 0, 1, 4},
+    {"shrinking over columns until its hi is below its lo", {7, 11, 9, 9, 0, 0}, X, 1, -1, 4},
+    {"neighbours that share a code", {8, 10, 3, 6, 0, 0}, Y, 3, 3, 3},
+    {"moving over frames", {0, 12, 0, 9, -2, -1}, Z, 1, 1, 4},
+    {"large windows that end where the boxes meet", {LEAST_COLUMN, 8, ALL_CODES, ALL_FRAMES}, X, 0, 1, 3},
+    {"large windows that begin where the boxes meet", {ALL_COLUMNS, 10, GREATEST_CODE, ALL_FRAMES}, Y, -1, 0, 3},
+};
+
 #define COUNT(array) (sizeof array / sizeof array[0])
 #define ZONE(name, of, about) {name, about, of##_rows, COUNT(of##_rows), of##_walks, COUNT(of##_walks)}
 
@@ -206,6 +226,9 @@ static const struct zone zones[] = {
     ZONE("A-B", steep,
          "A wedge as steep over the frames as can be, less a box: its plane passes through frames 65538 and 65539, where a slope "
          "times a frame leaves 32 bits."),
+    ZONE("T-B", triangle,
+         "A triangle less a box: the box of T ends in column 9 and code 9, where B begins. T does not reach there, and still B is a "
+         "cut."),
 };
 
 /* Walks. */
@@ -266,13 +289,16 @@ static void add_window(struct axis *to, int axis, int64_t lo, int64_t hi)
 
 static void add_edges(struct axis *to, int axis, const int32_t *row)
 {
-    int64_t least = row[BOUND + LO(axis)], greatest = row[BOUND + HI(axis)];
     if (row[KIND] == DRUM && axis != Z) {
-        least = (int64_t)row[CENTRE + axis] - row[RADIUS + axis];
-        greatest = (int64_t)row[CENTRE + axis] + row[RADIUS + axis];
+        add(to, axis, (int64_t)row[CENTRE + axis] - row[RADIUS + axis]);
+        add(to, axis, (int64_t)row[CENTRE + axis] + row[RADIUS + axis]);
+    } else if (row[KIND] == TRIANGLE && axis != Z) {
+        for (int corner = 0; corner < CORNERS; corner++)
+            add(to, axis, row[CORNER(corner, axis)]);
+    } else {
+        add(to, axis, row[bound_word(row[KIND], LO(axis))]);
+        add(to, axis, row[bound_word(row[KIND], HI(axis))]);
     }
-    add(to, axis, least);
-    add(to, axis, greatest);
 }
 
 /* Those of the windows of a walk, the edges of the zone's primitives, and the ends of the range. */

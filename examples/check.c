@@ -1,5 +1,5 @@
 /* Do the zones here do what README.md says? Of each, the list for the full range, and what the search of a few traces comes
-   to, by the tree and by that list. `compare/run` compiles it and runs it from the top of the repository. */
+   to, by the tree and by that list; and whether the two eye masks are one. `compare/run` compiles it and runs it from the top of the repository. */
 #include <inttypes.h>
 #include <stdio.h>
 
@@ -8,7 +8,7 @@
 #define COUNT(array) (sizeof array / sizeof array[0])
 #define MOST_CORNERS 10
 #define MOST_SAMPLES 1024
-#define MOST_PRODUCTS 3
+#define MOST_PRODUCTS 6
 #define HEADER_WORDS 8
 #define PRODUCT_WORDS 2
 
@@ -77,24 +77,26 @@ static const struct example examples[] = {
     {"examples/q.zone", 2, {{9, 2}, {12, 0}}, q_traces, COUNT(q_traces)},
     {"examples/runt.zone", 1, {{3, 4}}, runt_traces, COUNT(runt_traces)},
     {"examples/eye-mask.zone", 3, {{15, 0}, {16, 0}, {32, 0}}, eye_mask_traces, COUNT(eye_mask_traces)},
+    {"examples/eye-triangles.zone", 6, {{1, 0}, {2, 0}, {4, 0}, {8, 0}, {16, 0}, {32, 0}},
+     eye_mask_traces, COUNT(eye_mask_traces)},
     {"examples/drum-slot.zone", 1, {{1, 2}}, drum_slot_traces, COUNT(drum_slot_traces)},
     {"examples/two-pulse.zone", 2, {{5, 0}, {6, 0}}, two_pulse_traces, COUNT(two_pulse_traces)},
 };
 
 static uint8_t text[LAMPHOLLY_TEXT_BYTES + 1];
-static int32_t table[LAMPHOLLY_TABLE_WORDS];
+static int32_t table[LAMPHOLLY_TABLE_WORDS], other[LAMPHOLLY_TABLE_WORDS];
 static uint64_t list[LAMPHOLLY_LIST_WORDS];
 static int16_t codes[MOST_SAMPLES];
 
 /* The words of the zone's table, 0 where the file has none. */
-static size_t read_zone(const char *name)
+static size_t read_zone(const char *name, int32_t *into)
 {
     FILE *file = fopen(name, "rb");
     if (file == NULL)
         return 0;
     size_t bytes = fread(text, 1, sizeof text, file);
     fclose(file);
-    struct lampholly_answer read = lampholly_read_text(text, bytes, table, LAMPHOLLY_TABLE_WORDS);
+    struct lampholly_answer read = lampholly_read_text(text, bytes, into, LAMPHOLLY_TABLE_WORDS);
     return read.refusal ? 0 : read.value;
 }
 
@@ -148,7 +150,7 @@ static int check_trace(const struct example *example, const struct trace *trace,
 static int check_example(const struct example *example)
 {
     struct lampholly_window full = {-32768, 32767, -32768, 32767, -1048576, 1048575};
-    size_t words = read_zone(example->file);
+    size_t words = read_zone(example->file, table);
     struct lampholly_answer made = lampholly_make_list(table, words, full, list, LAMPHOLLY_LIST_WORDS);
     int good = is_list_of(example, made);
     if (!good)
@@ -158,9 +160,28 @@ static int check_example(const struct example *example)
     return good;
 }
 
+/* The mask of wedges and the mask of triangles: at each of many codes, the same columns. At one code these are a single run, so
+   that the first of them and their number say all. */
+static int check_masks(void)
+{
+    size_t wedges = read_zone("examples/eye-mask.zone", table), triangles = read_zone("examples/eye-triangles.zone", other);
+    size_t samples = 801;
+    int good = 1;
+    for (int32_t code = -12025; code <= 12025; code += 25) {
+        for (size_t i = 0; i < samples; i++)
+            codes[i] = (int16_t)code;
+        struct lampholly_answer one = lampholly_tree_search(table, wedges, codes, samples, -400, 0);
+        struct lampholly_answer two = lampholly_tree_search(other, triangles, codes, samples, -400, 0);
+        good &= !one.refusal && !two.refusal && one.value == two.value && one.count == two.count;
+    }
+    if (!good)
+        printf("the mask of triangles is not the mask of wedges\n");
+    return good;
+}
+
 int main(void)
 {
-    int good = 1;
+    int good = check_masks();
     for (size_t i = 0; i < COUNT(examples); i++)
         good &= check_example(&examples[i]);
     if (good)

@@ -11,13 +11,15 @@
       LAMPHOLLY_UNION    left right                  in left or in right
       LAMPHOLLY_INTER    left right                  in left and in right
       LAMPHOLLY_DIFF     left right                  in left and not in right
+      LAMPHOLLY_TRIANGLE x1 y1 x2 y2 x3 y3 zlo zhi   zlo <= z <= zhi, and between the three corners, edges and corners included
    - x is the column and y the code, each in -32768..32767; z is the frame number, in -1048576..1048575: 0 is the newest frame,
      older ones are negative.
    - A lo or hi is in the range of its axis, with lo <= hi; so are cx - rx, cx + rx, cy - ry and cy + ry. A radius is 1..4096.
-     a, b and c are in -32768..32767 and not all 0; d is any 32-bit value.
+     a, b and c are in -32768..32767 and not all 0; d is any 32-bit value. The corners of a triangle are in range, run either
+     way round, and do not lie on one line.
    - left and right are numbers of earlier rows, counted from 0. Each row but the last is so named once; the last is the zone.
-   - Boxes, wedges and drums are the primitives, numbered from 0 in the order of their rows. A table has at most 127 rows and
-     64 primitives.
+   - Boxes, wedges, drums and triangles are the primitives, numbered from 0 in the order of their rows. A table has at most 127
+     rows and 64 primitives.
 
    What is lent
    - `words` counts words, not rows and not bytes. The same holds for `list_words`, `samples` and `bytes`, and `room` counts the
@@ -29,8 +31,8 @@
    - Every input has an answer; no call has a precondition besides those above.
 
    Threads: calls keep no state, so they may run at the same time unless one writes a buffer that is lent to another.
-   Stack: bytes as measured (no bounds) on tables of 127 rows: check 320; write_text 384; list_search 480; list_point 512;
-   list_search_frames 608; tree_point 4,256; tree_search 4,320; read_text 7,696; make_list 11,408. docs/PERFORMANCE.md says how.
+   Stack: bytes as measured (no bounds) on tables of 127 rows: check 328; write_text 392; list_search 488; list_point 504;
+   list_search_frames 616; tree_point 4,320; tree_search 4,384; read_text 7,680; make_list 11,408. docs/PERFORMANCE.md says how.
    Cost: linear in the rows for check, tree_point and write_text; in the bytes for read_text; in samples * rows for tree_search;
    in rows + list words for list_point; in samples * (rows + list words) for list_search. list_search_frames checks table and
    list once, then takes for each frame what list_search takes for it. make_list takes rows * rows, and then what the choices
@@ -59,7 +61,7 @@ extern "C" {
 #endif
 
 /* The header's own: hundreds rise where a program that was right may need a change, ones where something was added. */
-#define LAMPHOLLY_VERSION 201
+#define LAMPHOLLY_VERSION 202
 
 /* The kinds of rows. */
 #define LAMPHOLLY_BOX 0
@@ -68,6 +70,7 @@ extern "C" {
 #define LAMPHOLLY_UNION 3
 #define LAMPHOLLY_INTER 4
 #define LAMPHOLLY_DIFF 5
+#define LAMPHOLLY_TRIANGLE 6
 
 /* The refusals: those of the table, then those that each call names. */
 #define LAMPHOLLY_REFUSED_LENGTH 1
@@ -167,8 +170,8 @@ struct lampholly_answer lampholly_list_search(const int32_t *table, size_t words
                                               const int16_t *codes, size_t samples, int32_t first, int32_t frame);
 
 /* Reads zone text into table[0 .. room - 1]. The first line is `zone` and the number of rows. Each further line is a row: box,
-   wedge, drum, union, inter or diff, then the words of its kind in decimal, a minus only before a negative one and no zero in
-   front. A tab stands between two, a line feed ends every line, and nothing follows the last.
+   wedge, drum, union, inter, diff or tri, then the words of its kind in decimal, a minus only before a negative one and no zero
+   in front. A tab stands between two, a line feed ends every line, and nothing follows the last.
    Answers: written (0, words written, 0).
    Refusals:
      13  over 16,384 bytes                       value: 0

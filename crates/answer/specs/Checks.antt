@@ -1,21 +1,13 @@
--- What a table and a list that were accepted have, and what holds a point.
+-- What a table and a list that were accepted have.
 use Prim.Native.Nat.{ℕ}
-use mathlib.Core.Bool.{Bool}
 use mathlib.Core.List.{List}
 use mathlib.Core.Option.{none}
 use mathlib.Core.Path.{_≡_}
 use lib.IntN.{ℤ}
-use Rattle.rules.specs.declared.Point.{Point}
-use Rattle.rules.specs.declared.Primitive.{Primitive}
-use Rattle.rules.specs.Inside.{insideSolid}
 use Rattle.rules.specs.ListCalls.{acceptRefusal}
 use Rattle.rules.specs.ListFaults.{listRefusal, primitivesRefusal}
 use Rattle.rules.specs.Table.{primitives}
 use Rattle.rules.specs.Verdict.{tableRefusal}
-
--- a primitive holds the point
-abbrev pub holding : Point → Primitive → Bool
-holding p s = insideSolid s p
 
 -- a table and a list that have passed: all checks, and each of them
 pub record Accepted (t : List ℤ) (list : List ℕ) : Type 0 where

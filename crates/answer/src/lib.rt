@@ -1,6 +1,5 @@
 // Asking a list that was accepted: a point of its window, and a frame that lies in it.
 use frame::Tally;
-use reach::Gathered;
 use rules::Checked;
 use rules::Located;
 use rules::Place;
@@ -8,14 +7,12 @@ use rules::Point;
 use rules::Product;
 use rules::Searched;
 use rules::Window;
-use table::Leaf;
-ghost use Prim.Native.Nat.{_+_, _<_};
 ghost use mathlib.Core.Bool.{true};
 ghost use mathlib.Core.Option.{none};
 ghost use mathlib.Core.Path.{_≡_};
 ghost use lib.ListN.{length};
 ghost use Rattle.rules.specs.Boxes.{holds, everywhere, windowBox};
-ghost use Rattle.rules.specs.Table.{rowCount, primitivesBefore, primitives};
+ghost use Rattle.rules.specs.Table.{primitives};
 ghost use Rattle.rules.specs.ListInside.{insideList};
 ghost use Rattle.rules.specs.Frame.{frameRefusal, leavesRefusal, sampleInside};
 ghost use Rattle.rules.specs.ListCalls.{ListLocated, ListSearched};
@@ -24,23 +21,7 @@ ghost use Rattle.laws.specs.Sound.{Sound};
 ghost use Rattle.laws.specs.SoundList.{SoundList};
 ghost use Rattle.laws.specs.Held.{held, suits, suitsSome};
 ghost use Rattle.frame.specs.Tallies.{Tallied};
-ghost use Rattle.reach.specs.Gathering.{Gathers};
-ghost use Rattle.answer.specs.Checks.{holding, Accepted};
-
-// One row more: a primitive is tested once.
-fn hold_row(table: &[i32], row: usize, p: Point, g: Gathered) -> Gathered
-    requires { ⌜ Sound (now table) ⌝ }
-    requires { ⌜ row < rowCount (now table) ⌝ }
-    requires { ⌜ holds everywhere p ≡ true ⌝ }
-    requires { ⌜ Gathers (primitivesBefore (now table) row) (holding p) g ⌝ }
-    ensures { λ r. ⌜ Gathers (primitivesBefore (now (table .entry)) (row + 1)) (holding p) r ⌝ }
-{
-    let leaf = table::primitive_at(table, row);
-    match leaf {
-        Leaf::Solid(s) => reach::added(g, solid::in_solid(s, p)),
-        Leaf::None => g,
-    }
-}
+ghost use Rattle.answer.specs.Checks.{Accepted};
 
 // The primitives that hold a point.
 fn holders(table: &[i32], p: Point) -> u64
@@ -48,14 +29,7 @@ fn holders(table: &[i32], p: Point) -> u64
     requires { ⌜ holds everywhere p ≡ true ⌝ }
     ensures { λ r. ⌜ r ≡ held (primitives (now (table .entry))) p ⌝ }
 {
-    let rows = table::row_count(table);
-    let mut g = Gathered { set: 0, count: 0 };
-    let mut row: usize = 0;
-    while row < rows {
-        g = hold_row(table, row, p, g);
-        row += 1;
-    }
-    g.set
+    holding::holders(table, 0, table::row_count(table), p)
 }
 
 // All that the product asks for, and none of its cuts.

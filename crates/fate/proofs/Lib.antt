@@ -1,4 +1,3 @@
-pub mod Ends
 pub mod Cuts
 pub mod Fates
 pub mod Rooted

@@ -9,8 +9,6 @@ use table::Leaf;
 ghost use Prim.Native.Nat.{_+_, _<_};
 ghost use mathlib.Core.Path.{_≡_};
 ghost use lib.ListN.{getD};
-ghost use lib.Signed.{leZ};
-ghost use Rattle.ground.specs.Tests.{if_then_else_};
 ghost use Rattle.rules.specs.Boxes.{commonBox};
 ghost use Rattle.rules.specs.Choices.{inOf, choices, expansion};
 ghost use Rattle.rules.specs.Inside.{bounds};
@@ -28,29 +26,17 @@ pub enum Fate {
     Kept(Product),
 }
 
-fn greater(a: i32, b: i32) -> i32
-    ensures { λ r. ⌜ r ≡ (if leZ a b then b else a) ⌝ }
-{
-    if a <= b { b } else { a }
-}
-
-fn lesser(a: i32, b: i32) -> i32
-    ensures { λ r. ⌜ r ≡ (if leZ a b then a else b) ⌝ }
-{
-    if a <= b { a } else { b }
-}
-
 // What two boxes have in common.
 fn cut_box(a: BoxShape, b: BoxShape) -> BoxShape
     ensures { λ r. ⌜ bounds r ≡ commonBox (bounds a) (bounds b) ⌝ }
 {
     BoxShape {
-        xlo: greater(a.xlo, b.xlo),
-        xhi: lesser(a.xhi, b.xhi),
-        ylo: greater(a.ylo, b.ylo),
-        yhi: lesser(a.yhi, b.yhi),
-        zlo: greater(a.zlo, b.zlo),
-        zhi: lesser(a.zhi, b.zhi),
+        xlo: solid::greater(a.xlo, b.xlo),
+        xhi: solid::lesser(a.xhi, b.xhi),
+        ylo: solid::greater(a.ylo, b.ylo),
+        yhi: solid::lesser(a.yhi, b.yhi),
+        zlo: solid::greater(a.zlo, b.zlo),
+        zhi: solid::lesser(a.zhi, b.zhi),
     }
 }
 

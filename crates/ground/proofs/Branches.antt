@@ -1,5 +1,6 @@
 -- What a branch tells of `p && q` and `p || q`, of a choice, and of what a test says. Assumes nothing.
 use mathlib.Core.Bool.{Bool, true, false, _&&_, _||_}
+use mathlib.Core.Logic.{_⊎_, inl, inr}
 use mathlib.Core.Path.{_≡_, refl, sym, subst}
 use lib.Dec.{T}
 use Rattle.ground.specs.Tests.{Says}
@@ -28,6 +29,11 @@ and-left false q h = h
 pub and-right : (p q : Bool) → (p && q) ≡ true → q ≡ true
 and-right true q h = h
 and-right false q h = false-true h
+
+-- one part of `p || q`
+pub or-cases : (p q : Bool) → (p || q) ≡ true → (p ≡ true) ⊎ (q ≡ true)
+or-cases true q h = inl refl
+or-cases false q h = inr h
 
 -- what a test says, either way
 pub says-holds : (t : Bool) (X : Type 0) → Says t X → t ≡ true → X

@@ -7,6 +7,7 @@ pub mod Num
 pub mod Counting
 pub mod Pieces
 pub mod Order
+pub mod Differences
 pub mod Masks
 pub mod Writes
 pub mod Kept

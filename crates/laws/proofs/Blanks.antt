@@ -1,14 +1,14 @@
 -- Choices that come to the same, or to nothing, within a set of primitives; and when a plan has one that comes to nothing. Assumes nothing.
 use Prim.Native.Nat.{ℕ, _+_, _*_, _/_, _%_, _^_, _<_}
 use native.Mathlib.Omega.{arith}
-use mathlib.Core.Bool.{Bool, true, false, _&&_, _||_, or-true}
+use mathlib.Core.Bool.{Bool, true, _&&_, _||_, or-true}
 use mathlib.Core.Logic.{_⊎_, inl, inr}
 use mathlib.Core.Path.{_≡_, refl, sym, ap, ap₂, subst, _∙_}
 use borrow.Author.Tests.{eqb-true, eq-eqb}
 use lib.Bits.{bitAnd, bitOr, or-zero-l, or-zero-r, or-add-and, and-le-l, and-le-r}
 use lib.Dec.{eqb}
 use lib.Pow.{pow-pos}
-use Rattle.ground.proofs.Branches.{false-true, and-left, and-right}
+use Rattle.ground.proofs.Branches.{false-true, and-left, and-right, or-cases}
 use Rattle.ground.proofs.Masks.{Within, within-none, within-cut, within-or, or-and, part-left, part-right}
 use Rattle.rules.specs.declared.Product.{Product}
 use Rattle.rules.specs.Choices.{joined}
@@ -74,10 +74,6 @@ means-hollow r c h = ap₂ _&&_ (eq-eqb (c .plain) 0 (h .0)) (eq-eqb (bitAnd (c 
 
 no-power : {A : Type 0} (i : ℕ) → 2 ^ i ≡ 0 → A
 no-power i e = absurd (omega (arith, pow-pos i))
-
-or-cases : (p q : Bool) → (p || q) ≡ true → (p ≡ true) ⊎ (q ≡ true)
-or-cases true q h = inl refl
-or-cases false q h = inr h
 
 none-or : (u v : ℕ) → u ≡ 0 → v ≡ 0 → bitOr u v ≡ 0
 none-or u v p q = ap₂ bitOr p q ∙ or-zero-l 0

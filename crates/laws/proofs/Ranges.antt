@@ -1,9 +1,9 @@
--- What the rules of a wedge and a drum, and the range of points, say of each number. Assumes nothing.
+-- What the rules of a wedge, a drum and a triangle, and the range of points, say of each number. Assumes nothing.
 use Prim.Native.Nat.{ℕ, zero, suc, _+_, _≤_}
 use native.Mathlib.Omega.{arith}
-use mathlib.Core.Bool.{Bool, true, not, _&&_}
+use mathlib.Core.Bool.{Bool, true, false, not, _&&_}
 use mathlib.Core.Path.{_≡_}
-use borrow.Author.Tests.{leb-true, le-leb}
+use borrow.Author.Tests.{leb-true, le-leb, not-true}
 use lib.Dec.{leb}
 use lib.IntN.{ℤ, pos, negsuc, _+ℤ_, _-ℤ_}
 use Rattle.ground.specs.Tests.{eqZ}
@@ -11,15 +11,18 @@ use Rattle.ground.proofs.Branches.{false-true, and-left, and-right}
 use Rattle.rules.specs.declared.Point.{Point}
 use Rattle.rules.specs.declared.WedgeShape.{WedgeShape}
 use Rattle.rules.specs.declared.DrumShape.{DrumShape}
+use Rattle.rules.specs.declared.Corner.{Corner}
+use Rattle.rules.specs.declared.TriangleShape.{TriangleShape}
 use Rattle.rules.specs.Ranges.{Span, within, columns, codes, frames}
 use Rattle.rules.specs.Boxes.{holds, everywhere}
-use Rattle.rules.specs.Fields.{slopes, radii, boxRight, slopesRight, wedgeRight, endsRight, reachRight, drumRight}
+use Rattle.rules.specs.Fields.{slopes, radii, boxRight, slopesRight, wedgeRight, endsRight, reachRight, drumRight, cornerRight, cornersRight, triangleRight}
+use Rattle.rules.specs.Sides.{twiceArea}
 
 -- the second and the third of a chain of tests
-second : (p q r : Bool) → (p && (q && r)) ≡ true → q ≡ true
+pub second : (p q r : Bool) → (p && (q && r)) ≡ true → q ≡ true
 second p q r h = and-left q r (and-right p (q && r) h)
 
-third : (p q r : Bool) → (p && (q && r)) ≡ true → r ≡ true
+pub third : (p q r : Bool) → (p && (q && r)) ≡ true → r ≡ true
 third p q r h = and-right q r (and-right p (q && r) h)
 
 module _ (p : Point) (h : holds everywhere p ≡ true) where
@@ -81,3 +84,33 @@ module _ (d : DrumShape) (h : drumRight d ≡ true) where
 
   pub ry-in : within radii (d .ry) ≡ true
   ry-in = and-left (within radii (d .ry)) (within codes (d .cy -ℤ d .ry) && within codes (d .cy +ℤ d .ry)) y-reach
+
+module _ (c : Corner) (h : cornerRight c ≡ true) where
+  pub corner-x-in : within columns (c .x) ≡ true
+  corner-x-in = and-left (within columns (c .x)) (within codes (c .y)) h
+
+  pub corner-y-in : within codes (c .y) ≡ true
+  corner-y-in = and-right (within columns (c .x)) (within codes (c .y)) h
+
+module _ (t : TriangleShape) (h : cornersRight t ≡ true) where
+  pub first-right : cornerRight (t .first) ≡ true
+  first-right = and-left (cornerRight (t .first)) (cornerRight (t .second) && cornerRight (t .third)) h
+
+  pub second-right : cornerRight (t .second) ≡ true
+  second-right = second (cornerRight (t .first)) (cornerRight (t .second)) (cornerRight (t .third)) h
+
+  pub third-right : cornerRight (t .third) ≡ true
+  third-right = third (cornerRight (t .first)) (cornerRight (t .second)) (cornerRight (t .third)) h
+
+module _ (t : TriangleShape) (h : triangleRight t ≡ true) where
+  abbrev framed : Bool
+  framed = endsRight frames (t .zlo) (t .zhi)
+
+  abbrev spread : Bool
+  spread = not (eqZ (twiceArea t) (pos 0))
+
+  pub corners-right : cornersRight t ≡ true
+  corners-right = and-left (cornersRight t) (framed && spread) h
+
+  pub not-flat : eqZ (twiceArea t) (pos 0) ≡ false
+  not-flat = not-true (eqZ (twiceArea t) (pos 0)) (third (cornersRight t) framed spread h)

@@ -67,6 +67,7 @@ kept-by (some k) w row e =
     go kind.Union f c = by (op-kept Union (w 1) (w 2) row (λ l r h. h) c)
     go kind.Inter f c = by (op-kept Inter (w 1) (w 2) row (λ l r h. h) c)
     go kind.Diff f c = by (op-kept Diff (w 1) (w 2) row (λ l r h. h) c)
+    go kind.Triangle f c = by (_, refl, f)
 
 pub sound-row : (t : List ℤ) (row : ℕ) → rowRefusal t row ≡ none → SoundRow t row
 sound-row t row e = let k = kept-by (kindAt t row) (wordAt t row) row e in record { reads = k .reads; is = k .is; right = k .right }

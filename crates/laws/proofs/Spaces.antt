@@ -1,7 +1,7 @@
 -- What spans and boxes have in common: boxes of which each two share a point all share one. Assumes nothing.
 use Prim.Native.Nat.{ℕ}
 use native.Mathlib.Omega.{arith}
-use mathlib.Core.Bool.{Bool, true, false, not, _&&_, _||_, and-false, and-comm, and-assoc}
+use mathlib.Core.Bool.{Bool, true, false, not, _&&_, _||_, and-false, and-comm, and-assoc, or-comm}
 use mathlib.Core.List.{List, [], _∷_, foldr}
 use mathlib.Core.Path.{_≡_, refl, sym, ap, ap₂, _∙_}
 use borrow.Author.Tests.{leb-false, le-leb, lt-ltb, leb-true, le-ltb}
@@ -13,7 +13,7 @@ use Rattle.ground.specs.Tests.{if_then_else_}
 use Rattle.ground.proofs.Branches.{false-true, and-left, and-right}
 use Rattle.ground.proofs.Order.{leZ-trans}
 use Rattle.rules.specs.Boxes.{Box, common, commonBox, empty, share}
-use Rattle.rules.specs.Ranges.{Span}
+use Rattle.rules.specs.Ranges.{Span, lesser, greater}
 
 -- ---- the order of whole numbers
 
@@ -43,21 +43,40 @@ implied-left p false f = sym (and-false p)
 implied-right : (p q : Bool) → (p ≡ true → q ≡ true) → p ≡ (p && q)
 implied-right p q f = implied-left q p f ∙ and-comm q p
 
--- the greater of two is at most v just if both are; v is at most the lesser just if it is at most both
+implied-either : (p q : Bool) → (q ≡ true → p ≡ true) → p ≡ (p || q)
+implied-either true q f = refl
+implied-either false true f = f refl
+implied-either false false f = refl
+
+-- the greater of two is at most v just if both are, the lesser just if one is; and likewise v is at most the lesser, and the greater
 module _ (a b v : ℤ) where
-  pub greater-most : leZ (if leZ a b then b else a) v ≡ (leZ a v && leZ b v)
+  pub greater-most : leZ (greater a b) v ≡ (leZ a v && leZ b v)
   greater-most = go (leZ a b) refl
     where
       go : (t : Bool) → leZ a b ≡ t → leZ (if t then b else a) v ≡ (leZ a v && leZ b v)
       go true h = implied-left (leZ a v) (leZ b v) (leZ-trans a b v h)
       go false h = implied-right (leZ a v) (leZ b v) (leZ-trans b a v (leZ-other a b h))
 
-  pub lesser-least : leZ v (if leZ a b then a else b) ≡ (leZ v a && leZ v b)
+  pub lesser-least : leZ v (lesser a b) ≡ (leZ v a && leZ v b)
   lesser-least = go (leZ a b) refl
     where
       go : (t : Bool) → leZ a b ≡ t → leZ v (if t then a else b) ≡ (leZ v a && leZ v b)
       go true h = implied-right (leZ v a) (leZ v b) (λ k. leZ-trans v a b k h)
       go false h = implied-left (leZ v a) (leZ v b) (λ k. leZ-trans v b a k (leZ-other a b h))
+
+  pub lesser-most : leZ (lesser a b) v ≡ (leZ a v || leZ b v)
+  lesser-most = go (leZ a b) refl
+    where
+      go : (t : Bool) → leZ a b ≡ t → leZ (if t then a else b) v ≡ (leZ a v || leZ b v)
+      go true h = implied-either (leZ a v) (leZ b v) (leZ-trans a b v h)
+      go false h = implied-either (leZ b v) (leZ a v) (leZ-trans b a v (leZ-other a b h)) ∙ or-comm (leZ b v) (leZ a v)
+
+  pub greater-least : leZ v (greater a b) ≡ (leZ v a || leZ v b)
+  greater-least = go (leZ a b) refl
+    where
+      go : (t : Bool) → leZ a b ≡ t → leZ v (if t then b else a) ≡ (leZ v a || leZ v b)
+      go true h = implied-either (leZ v b) (leZ v a) (λ k. leZ-trans v a b k h) ∙ or-comm (leZ v b) (leZ v a)
+      go false h = implied-either (leZ v a) (leZ v b) (λ k. leZ-trans v b a k (leZ-other a b h))
 
 -- ---- spans
 

@@ -9,7 +9,7 @@ use Rattle.ground.specs.Lists.{All}
 use Rattle.ground.proofs.Lists.{all-map}
 use Rattle.ground.proofs.Pieces.{all-each, pieces-most}
 use Rattle.rules.specs.declared.Kind.{Kind}
-use Rattle.rules.specs.declared.Kind.the-variants.{Box, Wedge, Drum, Union, Inter, Diff}
+use Rattle.rules.specs.declared.Kind.the-variants.{Box, Wedge, Drum, Union, Inter, Diff, Triangle}
 use Rattle.rules.specs.Kinds.{namedWords}
 use Rattle.rules.specs.Table.{mostRows}
 use Rattle.rules.specs.Text.{kindName, TextRow, fieldText, lineOf, textOf}
@@ -28,6 +28,7 @@ name-most Drum = omega arith
 name-most Union = omega arith
 name-most Inter = omega arith
 name-most Diff = omega arith
+name-most Triangle = omega arith
 
 pub few-named : (k : Kind) → namedWords k ≤ 10
 few-named Box = omega arith
@@ -36,6 +37,7 @@ few-named Drum = omega arith
 few-named Union = omega arith
 few-named Inter = omega arith
 few-named Diff = omega arith
+few-named Triangle = omega arith
 
 -- a row has the words that its kind names
 abbrev pub Named : TextRow → Type 0

@@ -17,7 +17,7 @@ use Rattle.ground.proofs.Lists.{all-at, all-map, all-flatMap, flatMap-append}
 use Rattle.ground.proofs.Pieces.{from-length, all-each, all-mapped, all-places, places, map-places, pieces-length, piece-at}
 use Rattle.ground.proofs.Signed.{eqZ-eq}
 use Rattle.rules.specs.declared.Kind.{Kind}
-use Rattle.rules.specs.declared.Kind.the-variants.{Box, Wedge, Drum, Union, Inter, Diff}
+use Rattle.rules.specs.declared.Kind.the-variants.{Box, Wedge, Drum, Union, Inter, Diff, Triangle}
 use Rattle.rules.specs.declared.Refusal.{Refusal}
 use Rattle.rules.specs.declared.Written.the-variants.{Wrote}
 use Rattle.rules.specs.Fields.{fieldsRight, spareRight, childrenRight}
@@ -64,6 +64,7 @@ whole-row Drum w = refl
 whole-row Union w = refl
 whole-row Inter w = refl
 whole-row Diff w = refl
+whole-row Triangle w = refl
 
 -- a row that the check lets through has a text, which gives its words back
 row-back : (x : Option Kind) (w : ℕ → ℤ) (row : ℕ) → kindOf (w 0) ≡ x → rowRefusalBy x w row ≡ none → tableOf (textRowBy x w) ≡ map w (below rowWords)

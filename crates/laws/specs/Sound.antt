@@ -11,7 +11,7 @@ use Rattle.rules.specs.declared.Primitive.the-variants as primitive
 use Rattle.rules.specs.declared.Row.{Row}
 use Rattle.rules.specs.declared.Row.the-variants.{Solid, Union, Inter, Diff}
 use Rattle.rules.specs.Table.{rowWords, mostRows, rowCount, rowAt}
-use Rattle.rules.specs.Fields.{boxRight, wedgeRight, drumRight}
+use Rattle.rules.specs.Fields.{boxRight, wedgeRight, drumRight, triangleRight}
 use Rattle.rules.specs.Verdict.{childOnce}
 
 -- a primitive keeps the rules of its fields
@@ -19,6 +19,7 @@ abbrev pub solidRight : Primitive → Bool
 solidRight (primitive.Box b) = boxRight b
 solidRight (primitive.Wedge w) = wedgeRight w
 solidRight (primitive.Drum d) = drumRight d
+solidRight (primitive.Triangle t) = triangleRight t
 
 -- a row that was read keeps its rules: fields, or children that are earlier rows
 abbrev pub RowRight : ℕ → Row → Type 0

@@ -84,7 +84,11 @@ fn read_name(text: &[u8], at: usize) -> Name
     if name.right {
         return name;
     }
-    try_name(text, at, Kind::Diff, b"diff")
+    let name = try_name(text, at, Kind::Diff, b"diff");
+    if name.right {
+        return name;
+    }
+    try_name(text, at, Kind::Triangle, b"tri")
 }
 
 // A tab and the number after it.
@@ -138,6 +142,7 @@ fn kind_number(kind: Kind) -> u8
         Kind::Union => 3,
         Kind::Inter => 4,
         Kind::Diff => 5,
+        Kind::Triangle => 6,
     }
 }
 

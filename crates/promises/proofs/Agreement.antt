@@ -21,13 +21,14 @@ use Rattle.ground.proofs.Order.{leZ-add}
 use Rattle.ground.proofs.Masks.{has, has-or, has-one}
 use Rattle.rules.specs.declared.Point.{Point}
 use Rattle.rules.specs.declared.DrumShape.{DrumShape}
+use Rattle.rules.specs.declared.TriangleShape.{TriangleShape}
 use Rattle.rules.specs.declared.Primitive.{Primitive}
 use Rattle.rules.specs.declared.Primitive.the-variants as primitive
 use Rattle.rules.specs.declared.Product.{Product}
 use Rattle.rules.specs.Tree.{Tree, solid, union, inter, diff, nowhere}
 use Rattle.rules.specs.Ranges.{within}
 use Rattle.rules.specs.Boxes.{holds}
-use Rattle.rules.specs.Fields.{radii, drumRight}
+use Rattle.rules.specs.Fields.{radii, drumRight, triangleRight}
 use Rattle.rules.specs.Inside.{bounds, halfSpace, square, inEllipse, inside, insideSolid}
 use Rattle.rules.specs.Choices.{Side, inOf, outOf, choices, joined, _crossed-with_}
 use Rattle.rules.specs.Products.{boxOf}
@@ -35,6 +36,7 @@ use Rattle.rules.specs.ListInside.{insideProduct}
 use Rattle.laws.specs.Sound.{solidRight}
 use Rattle.laws.proofs.Ranges.{rx-in, ry-in}
 use Rattle.laws.proofs.Spaces.{and-swap}
+use Rattle.promises.proofs.Triangles.{columns-around, codes-around}
 
 -- ---- tests
 
@@ -264,8 +266,15 @@ drum-box d p right h =
     ellipse-box (d .cx) (d .cy) (d .rx) (d .ry) (p .x) (p .y) (rx-in d right) (ry-in d right) (and-right frame ellipse h) in
     ap₂ _&&_ x-holds (ap₂ _&&_ y-holds (and-left frame ellipse h))
 
+triangle-box : (t : TriangleShape) (p : Point) → triangleRight t ≡ true → insideSolid (primitive.Triangle t) p ≡ true → holds (boxOf (primitive.Triangle t)) p ≡ true
+triangle-box t p right h =
+    let frame = within (record { lo = t .zlo; hi = t .zhi }) (p .z) in
+    let between = and-right frame _ h in
+    ap₂ _&&_ (columns-around t (p .x) (p .y) right between) (ap₂ _&&_ (codes-around t (p .x) (p .y) right between) (and-left frame _ h))
+
 -- a primitive lies in its box
 pub box-holds : (s : Primitive) (p : Point) → solidRight s ≡ true → insideSolid s p ≡ true → holds (boxOf s) p ≡ true
 box-holds (primitive.Box b) p right h = h
 box-holds (primitive.Wedge w) p right h = and-left (holds (bounds (w .bounds)) p) (halfSpace (w .a) (w .b) (w .c) (w .d) (p .x) (p .y) (p .z)) h
 box-holds (primitive.Drum d) p right h = drum-box d p right h
+box-holds (primitive.Triangle t) p right h = triangle-box t p right h

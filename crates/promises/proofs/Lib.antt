@@ -1,4 +1,5 @@
 pub mod Sets
+pub mod Triangles
 pub mod Agreement
 pub mod Placing
 pub mod Pruning

@@ -31,7 +31,7 @@ last-place {A} test xs x =
     ∙ (λ i. bitOr (placesOf test (take-append-seam xs (x ∷ []) i)) (if test (getD-append-seam xs x [] x i) then 2 ^ length xs else 0))
 
 module _ (solids : List Primitive) (s : Primitive) where
-  gathers-more : (test : Primitive → Bool) (g : Gathered) → Gathers solids test g → Gathers (solids ++ (s ∷ [])) test (withOne g (test s))
+  pub gathers-more : (test : Primitive → Bool) (g : Gathered) → Gathers solids test g → Gathers (solids ++ (s ∷ [])) test (withOne g (test s))
   gathers-more test g G = record {
     set = (λ i. bitOr (G .set i) (if test s then 2 ^ G .count i else 0)) ∙ sym (last-place test solids s);
     count = ap (λ (n : ℕ). n + 1) (G .count) ∙ sym (length-append solids (s ∷ []));

@@ -1,4 +1,4 @@
--- Cases 1 to 12 and 16 of docs/RULES.md, section 14: one table, and one theorem that all of them hold. Assumes nothing.
+-- Cases 1 to 12, 16 and 24 of docs/RULES.md, section 14: one table, and one theorem that all of them hold. Assumes nothing.
 use Prim.Native.Nat.{ℕ}
 use mathlib.Core.Path.{_≡_, refl}
 use mathlib.Core.List.{List, [], _∷_, map, flatMap}
@@ -18,7 +18,7 @@ use Rattle.rules.specs.Products.{firsts, products}
 use Rattle.rules.specs.Refusals.{refuse}
 use Rattle.rules.specs.Told.{Told, fine, sound, inside as is-inside, outside, tell}
 use Rattle.rules.specs.TreeCalls.{treePointRefusal, pointTale}
-use Rattle.rules.proofs.Zones.{q, qApart, farCuts, crossing, cutOfCut, swapped, wedge, drum, twoBoxes, deepBox, columnsOf, at}
+use Rattle.rules.proofs.Zones.{q, qApart, farCuts, crossing, cutOfCut, swapped, wedge, drum, triangle, turnedRound, flat, twoBoxes, deepBox, columnsOf, spot, at}
 
 -- what the definitions say of a zone
 pub data Says : Type 0 where
@@ -89,6 +89,15 @@ cases =
     ∷ row 16 (check (deepBox 1048576)) (refused 3 0)
     ∷ row 16 (check (wedge 32767)) isSound
     ∷ row 16 (check (wedge 32768)) (refused 3 0)
+    ∷ row 24 (point triangle (at 5 5)) isIn
+    ∷ row 24 (point triangle (at 10 0)) isIn
+    ∷ row 24 (point triangle (at 6 5)) isOut
+    ∷ row 24 (point triangle (spot (pos 11) (negsuc 0))) isOut
+    ∷ row 24 (point turnedRound (at 5 5)) isIn
+    ∷ row 24 (point turnedRound (at 10 0)) isIn
+    ∷ row 24 (point turnedRound (at 6 5)) isOut
+    ∷ row 24 (point turnedRound (spot (pos 11) (negsuc 0))) isOut
+    ∷ row 24 (check flat) (refused 3 0)
     ∷ []
 
 pub cases-hold : map (λ (c : Case). c .says) cases ≡ map (λ (c : Case). c .expected) cases

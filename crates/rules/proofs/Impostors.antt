@@ -41,7 +41,7 @@ use Rattle.rules.specs.Outcome.{over}
 use Rattle.rules.specs.TreeCalls.{TableChecked, TreeLocated, TreeSearched}
 use Rattle.rules.specs.ListCalls.{zoneList, ListMade, acceptRefusal, ListLocated, ListSearched, screenTriples, ScreenSearched}
 use Rattle.rules.specs.TextCalls.{TextRead, tableText, TextWritten}
-use Rattle.rules.proofs.Zones.{nought, box, union, inter, diff, q, columnsOf, at}
+use Rattle.rules.proofs.Zones.{nought, box, union, inter, diff, q, triangle, turnedRound, cornerCut, columnsOf, at}
 use Rattle.rules.proofs.Settled.{checked-settled, tree-located-settled, tree-searched-settled, list-made-settled}
 use Rattle.rules.proofs.Settled.{list-located-settled, list-searched-settled, screen-searched-settled, text-read-settled, text-written-settled}
 
@@ -339,3 +339,28 @@ left-barred = refl
 pub cut-against-left : (r : Written) → ListMade barred window room (over (leftList barred window) room) r → ⊥
 unfolding trees choices cutAtLeft _crossed-with_ firsts from keepIf findIf selected placesWhere flatMap
 cut-against-left r h = let e : _≡_ {A = ℕ} 4 0 = ap (λ (list : List ℕ). getD list 9 0) (list-made-settled h right-barred .1) in omega arith
+
+-- ---- one that leaves a triangle's edges out, and one that wants its corners one way round
+
+pub right-on-an-edge : TreeLocated triangle (at 5 5) located.Inside
+unfolding tableRefusal trees inside from allOf countIf findIf firstOf flatMap
+right-on-an-edge = record { answer = refl }
+
+pub edges-left-out : TreeLocated triangle (at 5 5) located.Outside → ⊥
+edges-left-out h = let e = tree-located-settled h right-on-an-edge in never (cc)
+
+pub right-turned-round : TreeLocated turnedRound (at 1 1) located.Inside
+unfolding tableRefusal trees inside from allOf countIf findIf firstOf flatMap
+right-turned-round = record { answer = refl }
+
+pub one-way-round-only : TreeLocated turnedRound (at 1 1) located.Outside → ⊥
+one-way-round-only h = let e = tree-located-settled h right-turned-round in never (cc)
+
+-- ---- one that tests a cut against the triangle, which it misses, and not against its box
+
+pub right-cornerCut : ListMade cornerCut window room (listHeader 1 2 ++ (1 ∷ 2 ∷ 7 ∷ 7 ∷ [])) (written.Wrote 10)
+unfolding tableRefusal trees choices _crossed-with_ firsts products zoneList from allOf keepIf countIf findIf firstOf selected placesWhere flatMap
+right-cornerCut = record { answer = refl; buffer = refl }
+
+pub cut-against-the-triangle : (r : Written) → ListMade cornerCut window room (listHeader 1 2 ++ (1 ∷ 0 ∷ 7 ∷ 7 ∷ [])) r → ⊥
+cut-against-the-triangle r h = let e : _≡_ {A = ℕ} 0 2 = ap (λ (list : List ℕ). getD list 9 0) (list-made-settled h right-cornerCut .1) in omega arith

@@ -5,3 +5,4 @@ pub mod Lines
 pub mod Told
 pub mod Settled
 pub mod Impostors
+pub mod Rounds

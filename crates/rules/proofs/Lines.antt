@@ -1,7 +1,7 @@
 -- A text's lines tell its rows: what is spelt is spelt in one way, and none of its lines is faulty. Assumes nothing.
 use Prim.Native.Nat.{ℕ, _≤_}
 use native.Mathlib.Omega.{arith}
-use mathlib.Core.Bool.{false}
+use mathlib.Core.Bool.{false, _&&_}
 use mathlib.Core.List.{List, [], _∷_, _++_, map, flatMap, append-nil, append-assoc, append-cancel-left, append-cancel-right}
 use mathlib.Core.List.{head-eq-of-cons-eq, tail-eq-of-cons-eq, nil≢cons, cons≢nil}
 use mathlib.Core.Option.{Option, some}
@@ -14,7 +14,7 @@ use Rattle.ground.specs.Lists.{All, findIf}
 use Rattle.ground.proofs.Lists.{all-append, all-at, all-map, all-flatMap, map-at}
 use Rattle.ground.proofs.Splits.{Run, Stop, split-once}
 use Rattle.rules.specs.declared.Kind.{Kind}
-use Rattle.rules.specs.declared.Kind.the-variants.{Box, Wedge, Drum, Union, Inter, Diff}
+use Rattle.rules.specs.declared.Kind.the-variants.{Box, Wedge, Drum, Union, Inter, Diff, Triangle}
 use Rattle.rules.specs.Kinds.{kinds, namedWords}
 use Rattle.rules.specs.Table.{mostRows}
 use Rattle.rules.specs.Text.{tab, lineFeed, decimal, numberText, zoneName, kindName, TextRow, headerLine, fieldText, lineOf, textOf}
@@ -30,23 +30,25 @@ name-run Drum = omega arith
 name-run Union = omega arith
 name-run Inter = omega arith
 name-run Diff = omega arith
+name-run Triangle = omega arith
 
--- the kinds' names differ in their third letters
-byThird : List ℕ → Option Kind
-byThird name = findIf (λ k. eqb (getD name 2 0) (getD (kindName k) 2 0)) kinds
+-- the kinds' names differ in their first or third letters
+byLetters : List ℕ → Option Kind
+byLetters name = findIf (λ k. eqb (getD name 0 0) (getD (kindName k) 0 0) && eqb (getD name 2 0) (getD (kindName k) 2 0)) kinds
 
-third-tells : (k : Kind) (more : List ℕ) → byThird (kindName k ++ more) ≡ some k
-unfolding byThird findIf
-third-tells Box more = refl
-third-tells Wedge more = refl
-third-tells Drum more = refl
-third-tells Union more = refl
-third-tells Inter more = refl
-third-tells Diff more = refl
+letters-tell : (k : Kind) (more : List ℕ) → byLetters (kindName k ++ more) ≡ some k
+unfolding byLetters findIf
+letters-tell Box more = refl
+letters-tell Wedge more = refl
+letters-tell Drum more = refl
+letters-tell Union more = refl
+letters-tell Inter more = refl
+letters-tell Diff more = refl
+letters-tell Triangle more = refl
 
 -- so the bytes that begin with one of them, whatever follows, begin with no other
 pub name-once : (k l : Kind) (us vs : List ℕ) → kindName k ++ us ≡ kindName l ++ vs → k ≡ l
-name-once k l us vs e = let s : some k ≡ some l = sym (third-tells k us) ∙ ap byThird e ∙ third-tells l vs in cc
+name-once k l us vs e = let s : some k ≡ some l = sym (letters-tell k us) ∙ ap byLetters e ∙ letters-tell l vs in cc
 
 -- what follows a name or a number: it begins with a tab or the line feed
 abbrev rest : List ℤ → List ℕ

@@ -64,6 +64,24 @@ wedge c = pos 1 ∷ nought ∷ pos 10 ∷ nought ∷ pos 10 ∷ nought ∷ nough
 abbrev pub drum : List ℤ
 drum = pos 2 ∷ nought ∷ nought ∷ pos 5 ∷ pos 3 ∷ nought ∷ nought ∷ nought ∷ nought ∷ nought ∷ nought ∷ nought ∷ []
 
+-- three corners, in frame 0
+abbrev corners : ℕ → ℕ → ℕ → ℕ → ℕ → ℕ → List ℤ
+corners x1 y1 x2 y2 x3 y3 = pos 6 ∷ pos x1 ∷ pos y1 ∷ pos x2 ∷ pos y2 ∷ pos x3 ∷ pos y3 ∷ nought ∷ nought ∷ nought ∷ nought ∷ nought ∷ []
+
+-- one way round, and the other
+abbrev pub triangle : List ℤ
+triangle = corners 0 0 10 0 0 10
+
+abbrev pub turnedRound : List ℤ
+turnedRound = corners 0 0 0 10 10 0
+
+abbrev pub flat : List ℤ
+flat = corners 0 0 5 5 10 10
+
+-- a triangle less a box that meets its box in one place, the corner that the triangle leaves out
+abbrev pub cornerCut : List ℤ
+cornerCut = corners 0 0 9 0 0 9 ++ ((nought ∷ pos 9 ∷ pos 12 ∷ pos 9 ∷ pos 9 ∷ nought ∷ nought ∷ nought ∷ nought ∷ nought ∷ nought ∷ nought ∷ []) ++ diff 0 1)
+
 abbrev pub twoBoxes : List ℤ
 twoBoxes = nine ++ nine
 
@@ -75,5 +93,8 @@ deepBox last = boxTo (pos last) nought (pos 9)
 abbrev pub columnsOf : ℤ → ℤ → Window
 columnsOf lo hi = record { xlo = lo; xhi = hi; ylo = codes .lo; yhi = codes .hi; zlo = frames .lo; zhi = frames .hi }
 
+abbrev pub spot : ℤ → ℤ → Point
+spot x y = record { x = x; y = y; z = nought }
+
 abbrev pub at : ℕ → ℕ → Point
-at x y = record { x = pos x; y = pos y; z = nought }
+at x y = spot (pos x) (pos y)

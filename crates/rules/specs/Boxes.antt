@@ -1,10 +1,9 @@
 -- Section 1 of docs/RULES.md: closed boxes of columns, codes and frames; the range of all points; windows.
 use mathlib.Core.Bool.{Bool, _&&_, _||_, not}
-use lib.Signed.{leZ, ltZ}
-use Rattle.ground.specs.Tests.{if_then_else_}
+use lib.Signed.{ltZ}
 use Rattle.rules.specs.declared.Point.{Point}
 use Rattle.rules.specs.declared.Window.{Window}
-use Rattle.rules.specs.Ranges.{Span, within, columns, codes, frames}
+use Rattle.rules.specs.Ranges.{Span, within, lesser, greater, columns, codes, frames}
 
 pub record Box : Type 0 where
   pub x : Span
@@ -31,8 +30,8 @@ fullRange = record { xlo = columns .lo; xhi = columns .hi; ylo = codes .lo; yhi 
 -- what two spans have in common, and what two boxes have
 abbrev pub common : Span → Span → Span
 common a b = record {
-  lo = if leZ (a .lo) (b .lo) then b .lo else a .lo;
-  hi = if leZ (a .hi) (b .hi) then a .hi else b .hi;
+  lo = greater (a .lo) (b .lo);
+  hi = lesser (a .hi) (b .hi);
 }
 
 abbrev pub commonBox : Box → Box → Box

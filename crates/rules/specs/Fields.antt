@@ -9,11 +9,14 @@ use Rattle.ground.specs.Lists.{rest, allOf}
 use Rattle.rules.specs.declared.BoxShape.{BoxShape}
 use Rattle.rules.specs.declared.WedgeShape.{WedgeShape}
 use Rattle.rules.specs.declared.DrumShape.{DrumShape}
+use Rattle.rules.specs.declared.Corner.{Corner}
+use Rattle.rules.specs.declared.TriangleShape.{TriangleShape}
 use Rattle.rules.specs.declared.Kind.{Kind}
-use Rattle.rules.specs.declared.Kind.the-variants.{Box, Wedge, Drum, Union, Inter, Diff}
+use Rattle.rules.specs.declared.Kind.the-variants.{Box, Wedge, Drum, Union, Inter, Diff, Triangle}
 use Rattle.rules.specs.Ranges.{Span, within, columns, codes, frames}
 use Rattle.rules.specs.Kinds.{isPrimitive, namedWords}
-use Rattle.rules.specs.Table.{rowWords, boxShape, wedgeShape, drumShape}
+use Rattle.rules.specs.Table.{rowWords, boxShape, wedgeShape, drumShape, triangleShape}
+use Rattle.rules.specs.Sides.{twiceArea}
 
 abbrev pub slopes : Span
 slopes = record { lo = negsuc 32767; hi = pos 32767 }
@@ -44,6 +47,16 @@ reachRight range centre radius = within radii radius && (within range (centre -�
 abbrev pub drumRight : DrumShape → Bool
 drumRight d = reachRight columns (d .cx) (d .rx) && (reachRight codes (d .cy) (d .ry) && endsRight frames (d .zlo) (d .zhi))
 
+abbrev pub cornerRight : Corner → Bool
+cornerRight c = within columns (c .x) && within codes (c .y)
+
+abbrev pub cornersRight : TriangleShape → Bool
+cornersRight t = cornerRight (t .first) && (cornerRight (t .second) && cornerRight (t .third))
+
+-- the corners are in range, and do not lie on one line
+abbrev pub triangleRight : TriangleShape → Bool
+triangleRight t = cornersRight t && (endsRight frames (t .zlo) (t .zhi) && not (eqZ (twiceArea t) (pos 0)))
+
 abbrev pub fieldsRight : Kind → (ℕ → ℤ) → Bool
 fieldsRight Box w = boxRight (boxShape w)
 fieldsRight Wedge w = wedgeRight (wedgeShape w)
@@ -51,6 +64,7 @@ fieldsRight Drum w = drumRight (drumShape w)
 fieldsRight Union w = true
 fieldsRight Inter w = true
 fieldsRight Diff w = true
+fieldsRight Triangle w = triangleRight (triangleShape w)
 
 -- the words that a kind does not name are 0
 abbrev pub spareRight : Kind → (ℕ → ℤ) → Bool

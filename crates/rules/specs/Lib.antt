@@ -3,6 +3,7 @@ pub mod Boxes
 pub mod Kinds
 pub mod Table
 pub mod Refusals
+pub mod Sides
 pub mod Fields
 pub mod Verdict
 pub mod Tree

@@ -9,12 +9,13 @@ use Rattle.rules.specs.declared.Primitive.{Primitive}
 use Rattle.rules.specs.declared.Primitive.the-variants as primitive
 use Rattle.rules.specs.declared.Product.{Product}
 use Rattle.rules.specs.declared.Window.{Window}
+use Rattle.rules.specs.Ranges.{around}
 use Rattle.rules.specs.Boxes.{Box, windowBox, commonBox, empty, share}
 use Rattle.rules.specs.Inside.{bounds}
 use Rattle.rules.specs.Tree.{Tree}
 use Rattle.rules.specs.Choices.{choices, inOf}
 
--- a primitive's box: the six bounds; of a drum, centre plus and minus radii and its frames
+-- a primitive's box: the six bounds; of a drum, centre plus and minus radii and its frames; of a triangle, what lies around its corners and its frames
 abbrev pub boxOf : Primitive → Box
 boxOf (primitive.Box b) = bounds b
 boxOf (primitive.Wedge w) = bounds (w .bounds)
@@ -22,6 +23,11 @@ boxOf (primitive.Drum d) = record {
   x = record { lo = d .cx -ℤ d .rx; hi = d .cx +ℤ d .rx };
   y = record { lo = d .cy -ℤ d .ry; hi = d .cy +ℤ d .ry };
   z = record { lo = d .zlo; hi = d .zhi };
+}
+boxOf (primitive.Triangle t) = record {
+  x = around (t .first .x) (t .second .x) (t .third .x);
+  y = around (t .first .y) (t .second .y) (t .third .y);
+  z = record { lo = t .zlo; hi = t .zhi };
 }
 
 -- in a window, of a zone with these primitives

@@ -3,6 +3,7 @@ use Prim.Native.Nat.{ℕ}
 use mathlib.Core.Bool.{Bool, _&&_}
 use lib.IntN.{ℤ, pos, negsuc}
 use lib.Signed.{leZ}
+use Rattle.ground.specs.Tests.{if_then_else_}
 use Rattle.rules.specs.declared.Axis.{Axis}
 use Rattle.rules.specs.declared.Axis.the-variants.{Column, Code, Frame}
 
@@ -13,6 +14,16 @@ pub record Span : Type 0 where
 
 abbrev pub within : Span → ℤ → Bool
 within s v = leZ (s .lo) v && leZ v (s .hi)
+
+abbrev pub lesser : ℤ → ℤ → ℤ
+lesser a b = if leZ a b then a else b
+
+abbrev pub greater : ℤ → ℤ → ℤ
+greater a b = if leZ a b then b else a
+
+-- from the least of three numbers to the greatest
+abbrev pub around : ℤ → ℤ → ℤ → Span
+around a b c = record { lo = lesser (lesser a b) c; hi = greater (greater a b) c }
 
 -- the greatest value of an axis
 abbrev pub greatest : Axis → ℕ

@@ -10,6 +10,8 @@ use Rattle.rules.specs.declared.Kind.the-variants as kind
 use Rattle.rules.specs.declared.BoxShape.{BoxShape}
 use Rattle.rules.specs.declared.WedgeShape.{WedgeShape}
 use Rattle.rules.specs.declared.DrumShape.{DrumShape}
+use Rattle.rules.specs.declared.Corner.{Corner}
+use Rattle.rules.specs.declared.TriangleShape.{TriangleShape}
 use Rattle.rules.specs.declared.Primitive.{Primitive}
 use Rattle.rules.specs.declared.Primitive.the-variants as primitive
 use Rattle.rules.specs.declared.Row.{Row}
@@ -38,6 +40,12 @@ wedgeShape w = record { bounds = boxShape w; a = w 7; b = w 8; c = w 9; d = w 10
 abbrev pub drumShape : (ℕ → ℤ) → DrumShape
 drumShape w = record { cx = w 1; cy = w 2; rx = w 3; ry = w 4; zlo = w 5; zhi = w 6 }
 
+abbrev pub corner : (ℕ → ℤ) → ℕ → Corner
+corner w k = record { x = w k; y = w (k + 1) }
+
+abbrev pub triangleShape : (ℕ → ℤ) → TriangleShape
+triangleShape w = record { first = corner w 1; second = corner w 3; third = corner w 5; zlo = w 7; zhi = w 8 }
+
 -- an operation on the rows that two words name; a negative word names none
 abbrev pub operation : (ℕ → ℕ → Row) → ℤ → ℤ → Option Row
 operation op (pos left) (pos right) = some (op left right)
@@ -51,6 +59,7 @@ rowOf kind.Drum w = some (Solid (primitive.Drum (drumShape w)))
 rowOf kind.Union w = operation Union (w 1) (w 2)
 rowOf kind.Inter w = operation Inter (w 1) (w 2)
 rowOf kind.Diff w = operation Diff (w 1) (w 2)
+rowOf kind.Triangle w = some (Solid (primitive.Triangle (triangleShape w)))
 
 abbrev pub kindAt : List ℤ → ℕ → Option Kind
 kindAt t row = kindOf (wordAt t row 0)

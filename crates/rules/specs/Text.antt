@@ -8,7 +8,7 @@ use lib.ListN.{length, replicate}
 use Rattle.ground.specs.Tests.{if_then_else_}
 use Rattle.ground.specs.Lists.{below}
 use Rattle.rules.specs.declared.Kind.{Kind}
-use Rattle.rules.specs.declared.Kind.the-variants.{Box, Wedge, Drum, Union, Inter, Diff}
+use Rattle.rules.specs.declared.Kind.the-variants.{Box, Wedge, Drum, Union, Inter, Diff, Triangle}
 use Rattle.rules.specs.Kinds.{kindNumber, namedWords}
 use Rattle.rules.specs.Table.{rowWords, rowCount, wordAt, kindAt}
 
@@ -42,7 +42,7 @@ numberText (negsuc n) = minus ∷ decimal (suc n)
 abbrev pub zoneName : List ℕ
 zoneName = 122 ∷ 111 ∷ 110 ∷ 101 ∷ []
 
--- box, wedge, drum, union, inter, diff
+-- box, wedge, drum, union, inter, diff, tri
 abbrev pub kindName : Kind → List ℕ
 kindName Box = 98 ∷ 111 ∷ 120 ∷ []
 kindName Wedge = 119 ∷ 101 ∷ 100 ∷ 103 ∷ 101 ∷ []
@@ -50,6 +50,7 @@ kindName Drum = 100 ∷ 114 ∷ 117 ∷ 109 ∷ []
 kindName Union = 117 ∷ 110 ∷ 105 ∷ 111 ∷ 110 ∷ []
 kindName Inter = 105 ∷ 110 ∷ 116 ∷ 101 ∷ 114 ∷ []
 kindName Diff = 100 ∷ 105 ∷ 102 ∷ 102 ∷ []
+kindName Triangle = 116 ∷ 114 ∷ 105 ∷ []
 
 -- a row as text has it: its kind, and the words that the kind names
 pub record TextRow : Type 0 where

@@ -88,6 +88,7 @@ pub enum Kind {
     Union,
     Inter,
     Diff,
+    Triangle,
 }
 
 pub struct BoxShape {
@@ -118,10 +119,26 @@ pub struct DrumShape {
     pub zhi: i32,
 }
 
+// A column and a code.
+pub struct Corner {
+    pub x: i32,
+    pub y: i32,
+}
+
+// What lies between three corners, the same in each of its frames.
+pub struct TriangleShape {
+    pub first: Corner,
+    pub second: Corner,
+    pub third: Corner,
+    pub zlo: i32,
+    pub zhi: i32,
+}
+
 pub enum Primitive {
     Box(BoxShape),
     Wedge(WedgeShape),
     Drum(DrumShape),
+    Triangle(TriangleShape),
 }
 
 // A row of the table: a primitive, or an operation on two earlier rows, left and right.

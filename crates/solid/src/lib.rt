@@ -1,17 +1,33 @@
 // What there is to know of a primitive: whether a point is inside it, and its box. Exact over the whole range: products and sums are taken in 64 bits.
 use rules::BoxShape;
+use rules::Corner;
 use rules::DrumShape;
 use rules::Point;
 use rules::Primitive;
+use rules::TriangleShape;
 use rules::WedgeShape;
 ghost use mathlib.Core.Bool.{true};
 ghost use mathlib.Core.Path.{_≡_};
-ghost use Rattle.rules.specs.Ranges.{within, columns, codes, frames};
+ghost use Rattle.rules.specs.declared.Primitive.the-variants as primitive;
+ghost use Rattle.rules.specs.Ranges.{within, lesser, greater, around, columns, codes, frames};
 ghost use Rattle.rules.specs.Boxes.{holds, everywhere};
-ghost use Rattle.rules.specs.Fields.{slopes, radii, wedgeRight, drumRight};
-ghost use Rattle.rules.specs.Inside.{bounds, halfSpace, inEllipse, insideWedge, insideDrum, insideSolid};
+ghost use Rattle.rules.specs.Fields.{slopes, radii, wedgeRight, drumRight, cornerRight, triangleRight};
+ghost use Rattle.rules.specs.Inside.{bounds, halfSpace, inEllipse, oneSided, insideWedge, insideDrum, insideTriangle, insideSolid};
 ghost use Rattle.rules.specs.Products.{boxOf};
+ghost use Rattle.rules.specs.Sides.{side};
 ghost use Rattle.laws.specs.Sound.{solidRight};
+
+pub fn lesser(a: i32, b: i32) -> i32
+    ensures { λ r. ⌜ r ≡ lesser a b ⌝ }
+{
+    if a <= b { a } else { b }
+}
+
+pub fn greater(a: i32, b: i32) -> i32
+    ensures { λ r. ⌜ r ≡ greater a b ⌝ }
+{
+    if a <= b { b } else { a }
+}
 
 fn in_box(b: BoxShape, p: Point) -> bool
     ensures { λ r. ⌜ r ≡ holds (bounds b) p ⌝ }
@@ -67,6 +83,41 @@ fn in_drum(d: DrumShape, p: Point) -> bool
     in_ellipse(d.cx, d.cy, d.rx, d.ry, p.x, p.y)
 }
 
+// (ax - x)(by - y) - (bx - x)(ay - y): the side of the edge from a to b that a point is on.
+pub fn side(a: Corner, b: Corner, x: i32, y: i32) -> i64
+    requires { ⌜ (cornerRight a ≡ true) × (cornerRight b ≡ true) ⌝ }
+    requires { ⌜ (within columns x ≡ true) × (within codes y ≡ true) ⌝ }
+    ensures { λ r. ⌜ r ≡ side a b x y ⌝ }
+{
+    ((a.x - x) as i64) * ((b.y - y) as i64) - ((b.x - x) as i64) * ((a.y - y) as i64)
+}
+
+// The sides of three edges are all >= 0 or all <= 0.
+fn one_sided(u: i64, v: i64, w: i64) -> bool
+    ensures { λ r. ⌜ r ≡ oneSided u v w ⌝ }
+{
+    ((0 <= u) & ((0 <= v) & (0 <= w))) | ((u <= 0) & ((v <= 0) & (w <= 0)))
+}
+
+fn in_triangle(t: TriangleShape, p: Point) -> bool
+    requires { ⌜ triangleRight t ≡ true ⌝ }
+    requires { ⌜ holds everywhere p ≡ true ⌝ }
+    ensures { λ r. ⌜ r ≡ insideTriangle t p ⌝ }
+{
+    let framed = (t.zlo <= p.z) & (p.z <= t.zhi);
+    if !framed {
+        return false;
+    }
+    let a = t.first;
+    let b = t.second;
+    let c = t.third;
+    one_sided(
+        side(a, b, p.x, p.y),
+        side(b, c, p.x, p.y),
+        side(c, a, p.x, p.y),
+    )
+}
+
 pub fn in_solid(s: Primitive, p: Point) -> bool
     requires { ⌜ solidRight s ≡ true ⌝ }
     requires { ⌜ holds everywhere p ≡ true ⌝ }
@@ -76,6 +127,35 @@ pub fn in_solid(s: Primitive, p: Point) -> bool
         Primitive::Box(b) => in_box(b, p),
         Primitive::Wedge(w) => in_wedge(w, p),
         Primitive::Drum(d) => in_drum(d, p),
+        Primitive::Triangle(t) => in_triangle(t, p),
+    }
+}
+
+fn least(a: i32, b: i32, c: i32) -> i32
+    ensures { λ r. ⌜ r ≡ around a b c .lo ⌝ }
+{
+    lesser(lesser(a, b), c)
+}
+
+fn most(a: i32, b: i32, c: i32) -> i32
+    ensures { λ r. ⌜ r ≡ around a b c .hi ⌝ }
+{
+    greater(greater(a, b), c)
+}
+
+fn triangle_box(t: TriangleShape) -> BoxShape
+    ensures { λ r. ⌜ bounds r ≡ boxOf (primitive.Triangle t) ⌝ }
+{
+    let a = t.first;
+    let b = t.second;
+    let c = t.third;
+    BoxShape {
+        xlo: least(a.x, b.x, c.x),
+        xhi: most(a.x, b.x, c.x),
+        ylo: least(a.y, b.y, c.y),
+        yhi: most(a.y, b.y, c.y),
+        zlo: t.zlo,
+        zhi: t.zhi,
     }
 }
 
@@ -95,5 +175,6 @@ pub fn box_of(s: Primitive) -> BoxShape
             zlo: d.zlo,
             zhi: d.zhi,
         },
+        Primitive::Triangle(t) => triangle_box(t),
     }
 }

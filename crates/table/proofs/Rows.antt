@@ -48,8 +48,9 @@ module _ (t : List ℤ) (row : ℕ) where
   op-words op (pos l) (negsuc r) e = let z : _≡_ {A = ℕ} 0 1 = cc in absurd (omega arith)
   op-words op (negsuc l) b e = let z : _≡_ {A = ℕ} 0 1 = cc in absurd (omega arith)
 
-  -- a sound row that is no box, wedge or drum is an operation
-  module _ (s : SoundRow t row) (n0 : ofZ w32 (wordAt t row 0) ≡ 0 → ⊥) (n1 : ofZ w32 (wordAt t row 0) ≡ 1 → ⊥) (n2 : ofZ w32 (wordAt t row 0) ≡ 2 → ⊥) where
+  -- a sound row that is no primitive is an operation
+  module _ (s : SoundRow t row) (n0 : ofZ w32 (wordAt t row 0) ≡ 0 → ⊥) (n1 : ofZ w32 (wordAt t row 0) ≡ 1 → ⊥) (n2 : ofZ w32 (wordAt t row 0) ≡ 2 → ⊥)
+      (n6 : ofZ w32 (wordAt t row 0) ≡ 6 → ⊥) where
     pub operates : IsOperation t row (wordAt t row 0)
     operates = go (kindAt t row) refl
       where
@@ -66,6 +67,7 @@ module _ (t : List ℤ) (row : ℕ) where
         go (some kind.Drum) e = absurd (n2 (ap (ofZ w32) (kind-number (wordAt t row 0) e)))
         go (some kind.Union) e = by kind.Union e (refl, op-words Union (wordAt t row 1) (wordAt t row 2) (reads kind.Union e))
         go (some kind.Inter) e = by kind.Inter e (refl, op-words Inter (wordAt t row 1) (wordAt t row 2) (reads kind.Inter e))
+        go (some kind.Triangle) e = absurd (n6 (ap (ofZ w32) (kind-number (wordAt t row 0) e)))
         go (some kind.Diff) e = by kind.Diff e (refl, op-words Diff (wordAt t row 1) (wordAt t row 2) (reads kind.Diff e))
 
   module _ {z : ℤ} (o : IsOperation t row z) where
@@ -85,6 +87,7 @@ module _ (t : List ℤ) (row : ℕ) where
         go kind.Union e c = absurd (n3 (ap (ofZ w32) e))
         go kind.Inter e c = absurd (n4 (ap (ofZ w32) e))
         go kind.Diff e c = e
+        go kind.Triangle e c = false-true (sym c)
 
 -- ---- a child
 

@@ -1,10 +1,12 @@
 // Reading the words of a row: its kind, its fields, its children.
 use crate::Named;
 use rules::BoxShape;
+use rules::Corner;
 use rules::DrumShape;
 use rules::Kind;
 use rules::Primitive;
 use rules::Row;
+use rules::TriangleShape;
 use rules::WedgeShape;
 ghost use Prim.Native.Nat.{_+_, _*_, _<_};
 ghost use mathlib.Core.Option.{some};
@@ -14,7 +16,7 @@ ghost use lib.IntN.{pos};
 ghost use lib.ListN.{length};
 ghost use lib.Signed.{nonNeg};
 ghost use Rattle.rules.specs.Kinds.{kindOf};
-ghost use Rattle.rules.specs.Table.{wordAt, boxShape, wedgeShape, drumShape, rowAt};
+ghost use Rattle.rules.specs.Table.{wordAt, boxShape, wedgeShape, drumShape, corner, triangleShape, rowAt};
 ghost use Rattle.laws.specs.Sound.{SoundRow};
 ghost use Rattle.table.specs.Reading.{InTable, IsOperation, namedBy};
 
@@ -36,6 +38,7 @@ pub fn kind_of(kind: i32) -> Named
         3 => Named::Known(Kind::Union),
         4 => Named::Known(Kind::Inter),
         5 => Named::Known(Kind::Diff),
+        6 => Named::Known(Kind::Triangle),
         _ => Named::Unknown,
     }
 }
@@ -81,6 +84,29 @@ pub fn drum_at(table: &[i32], row: usize) -> DrumShape
     }
 }
 
+fn corner_at(table: &[i32], row: usize, k: usize) -> Corner
+    requires { ⌜ row * 12 + (k + 1) < length (now table) ⌝ }
+    ensures { λ r. ⌜ r ≡ corner (wordAt (now (table .entry)) row) k ⌝ }
+{
+    Corner {
+        x: word(table, row, k),
+        y: word(table, row, k + 1),
+    }
+}
+
+pub fn triangle_at(table: &[i32], row: usize) -> TriangleShape
+    requires { ⌜ InTable (now table) row ⌝ }
+    ensures { λ r. ⌜ r ≡ triangleShape (wordAt (now (table .entry)) row) ⌝ }
+{
+    TriangleShape {
+        first: corner_at(table, row, 1),
+        second: corner_at(table, row, 3),
+        third: corner_at(table, row, 5),
+        zlo: word(table, row, 7),
+        zhi: word(table, row, 8),
+    }
+}
+
 // The row number in a word that is not negative.
 pub fn child(table: &[i32], row: usize, k: usize) -> usize
     requires { ⌜ row * 12 + k < length (now table) ⌝ }
@@ -116,6 +142,7 @@ pub fn read_row(table: &[i32], row: usize) -> Row
         0 => Row::Solid(Primitive::Box(box_at(table, row))),
         1 => Row::Solid(Primitive::Wedge(wedge_at(table, row))),
         2 => Row::Solid(Primitive::Drum(drum_at(table, row))),
+        6 => Row::Solid(Primitive::Triangle(triangle_at(table, row))),
         _ => operation_at(table, row, kind),
     }
 }

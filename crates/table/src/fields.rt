@@ -1,7 +1,9 @@
 // Whether the fields, the spare words and the children of a row are as its kind wants them.
 use rules::BoxShape;
+use rules::Corner;
 use rules::DrumShape;
 use rules::Kind;
+use rules::TriangleShape;
 use rules::WedgeShape;
 ghost use Prim.Native.Nat.{_+_, _≤_, _<_};
 ghost use mathlib.Core.Path.{_≡_};
@@ -10,7 +12,7 @@ ghost use Rattle.ground.specs.Tests.{eqZ};
 ghost use Rattle.ground.specs.Lists.{rest, allOf};
 ghost use Rattle.rules.specs.Kinds.{isPrimitive, namedWords};
 ghost use Rattle.rules.specs.Table.{wordAt};
-ghost use Rattle.rules.specs.Fields.{endsRight, boxRight, slopesRight, wedgeRight, reachRight, drumRight, fieldsRight, isEarlier, childrenRight};
+ghost use Rattle.rules.specs.Fields.{endsRight, boxRight, slopesRight, wedgeRight, reachRight, drumRight, cornerRight, triangleRight, fieldsRight, isEarlier, childrenRight};
 ghost use Rattle.table.specs.Reading.{InTable};
 
 // Both ends are in a range, and lo <= hi.
@@ -67,6 +69,28 @@ fn drum_right(d: DrumShape) -> bool
             & ends_right(rules::LEAST_FRAME, rules::GREATEST_FRAME, d.zlo, d.zhi))
 }
 
+fn corner_right(c: Corner) -> bool
+    ensures { λ r. ⌜ r ≡ cornerRight c ⌝ }
+{
+    ((rules::LEAST_COLUMN <= c.x) & (c.x <= rules::GREATEST_COLUMN))
+        & ((rules::LEAST_CODE <= c.y) & (c.y <= rules::GREATEST_CODE))
+}
+
+// The area is worked out only where its corners are in range.
+fn triangle_right(t: TriangleShape) -> bool
+    ensures { λ r. ⌜ r ≡ triangleRight t ⌝ }
+{
+    let a = t.first;
+    let b = t.second;
+    let c = t.third;
+    let in_range = corner_right(a) & (corner_right(b) & corner_right(c));
+    if !in_range {
+        return false;
+    }
+    ends_right(rules::LEAST_FRAME, rules::GREATEST_FRAME, t.zlo, t.zhi)
+        & (solid::side(a, b, c.x, c.y) != 0)
+}
+
 pub fn fields_right(table: &[i32], row: usize, kind: Kind) -> bool
     requires { ⌜ InTable (now table) row ⌝ }
     ensures { λ r. ⌜ r ≡ fieldsRight kind (wordAt (now (table .entry)) row) ⌝ }
@@ -78,6 +102,7 @@ pub fn fields_right(table: &[i32], row: usize, kind: Kind) -> bool
         Kind::Union => true,
         Kind::Inter => true,
         Kind::Diff => true,
+        Kind::Triangle => triangle_right(crate::decode::triangle_at(table, row)),
     }
 }
 
@@ -92,6 +117,7 @@ pub fn named_words(kind: Kind) -> usize
         Kind::Union => 2,
         Kind::Inter => 2,
         Kind::Diff => 2,
+        Kind::Triangle => 8,
     }
 }
 
@@ -120,6 +146,7 @@ fn is_primitive(kind: Kind) -> bool
         Kind::Union => false,
         Kind::Inter => false,
         Kind::Diff => false,
+        Kind::Triangle => true,
     }
 }
 

@@ -30,7 +30,7 @@ fn row_inside(table: &[i32], row: usize, p: Point) -> bool
 {
     let reads = table::read_row(table, row);
     match reads {
-        Row::Solid(s) => solid::in_solid(s, p),
+        Row::Solid(_) => holding::holders(table, row, row + 1, p) != 0,
         Row::Union(left, right) => row_inside(table, left, p) || row_inside(table, right, p),
         Row::Inter(left, right) => row_inside(table, left, p) && row_inside(table, right, p),
         Row::Diff(left, right) => row_inside(table, left, p) && !row_inside(table, right, p),

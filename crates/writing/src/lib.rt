@@ -29,6 +29,7 @@ fn name_length(kind: Kind) -> usize
         Kind::Union => 5,
         Kind::Inter => 5,
         Kind::Diff => 4,
+        Kind::Triangle => 3,
     }
 }
 
@@ -43,6 +44,7 @@ fn put_name(text: &mut [u8], at: usize, kind: Kind) -> usize
         Kind::Union => number::put_bytes(text, at, b"union"),
         Kind::Inter => number::put_bytes(text, at, b"inter"),
         Kind::Diff => number::put_bytes(text, at, b"diff"),
+        Kind::Triangle => number::put_bytes(text, at, b"tri"),
     }
 }
 

@@ -5,7 +5,7 @@ use lib.IntN.{ℤ}
 use lib.Signed.{ltZ}
 use mir.Syntax.{w32}
 use mir.Val.{toZ, ofZ}
-use Rattle.fate.proofs.Ends.{as-read}
+use Rattle.solid.proofs.Ends.{as-read}
 use Rattle.fate.proofs.by_box.Statement.{statement}
 use Rattle.fate.proofs.by_box.Tie as tie
 

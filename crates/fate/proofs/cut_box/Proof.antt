@@ -1,12 +1,9 @@
-use mathlib.Core.Path.{_≡_, _∙_}
 use borrow.Author.Needs.{needs}
-use lib.IntN.{ℤ}
-use lib.Signed.{leZ}
 use mir.Syntax.{w32}
-use mir.Val.{SFits, toZ, ofZ}
-use mir.ValLaws.{toZ-ofZ}
-use Rattle.ground.specs.Tests.{if_then_else_}
+use mir.Val.{SFits}
 use Rattle.rules.specs.declared.BoxShape.{BoxShape}
+use Rattle.rules.specs.Ranges.{lesser, greater}
+use Rattle.solid.proofs.Ends.{end}
 use Rattle.fate.proofs.cut_box.Statement.{statement}
 use Rattle.fate.proofs.cut_box.Tie as tie
 
@@ -42,17 +39,6 @@ fits-a s = record { xlo = search needs; xhi = search needs; ylo = search needs; 
 fits-b : (s : tie.Start) → Fits (s .args .b)
 fits-b s = record { xlo = search needs; xhi = search needs; ylo = search needs; yhi = search needs; zlo = search needs; zhi = search needs }
 
--- an end that was answered for two, as they were passed
-end : (answer : ℤ → ℤ → ℤ) {r a b : ℤ} → SFits w32 a → SFits w32 b → SFits w32 r
-    → r ≡ answer (toZ w32 (ofZ w32 a)) (toZ w32 (ofZ w32 b)) → toZ w32 (ofZ w32 r) ≡ answer a b
-end answer {r} {a} {b} fa fb fr h = toZ-ofZ w32 r fr ∙ h ∙ λ i. answer (toZ-ofZ w32 a fa i) (toZ-ofZ w32 b fb i)
-
-abbrev most : ℤ → ℤ → ℤ
-most a b = if leZ a b then b else a
-
-abbrev least : ℤ → ℤ → ℤ
-least a b = if leZ a b then a else b
-
 returns : tie.Need-returns
 returns c =
     let zlo = c .before .before .before in
@@ -65,16 +51,16 @@ returns c =
     let b = fits-b s in
     λ i. record {
       x = record {
-        lo = end most {r = xlo .greater .result} (a .xlo) (b .xlo) (search needs) (xlo .greater .ensures) i;
-        hi = end least {r = xhi .lesser .result} (a .xhi) (b .xhi) (search needs) (xhi .lesser .ensures) i;
+        lo = end greater {r = xlo .greater .result} (a .xlo) (b .xlo) (search needs) (xlo .greater .ensures) i;
+        hi = end lesser {r = xhi .lesser .result} (a .xhi) (b .xhi) (search needs) (xhi .lesser .ensures) i;
       };
       y = record {
-        lo = end most {r = ylo .greater2 .result} (a .ylo) (b .ylo) (search needs) (ylo .greater2 .ensures) i;
-        hi = end least {r = yhi .lesser2 .result} (a .yhi) (b .yhi) (search needs) (yhi .lesser2 .ensures) i;
+        lo = end greater {r = ylo .greater2 .result} (a .ylo) (b .ylo) (search needs) (ylo .greater2 .ensures) i;
+        hi = end lesser {r = yhi .lesser2 .result} (a .yhi) (b .yhi) (search needs) (yhi .lesser2 .ensures) i;
       };
       z = record {
-        lo = end most {r = zlo .greater3 .result} (a .zlo) (b .zlo) (search needs) (zlo .greater3 .ensures) i;
-        hi = end least {r = c .lesser3 .result} (a .zhi) (b .zhi) (search needs) (c .lesser3 .ensures) i;
+        lo = end greater {r = zlo .greater3 .result} (a .zlo) (b .zlo) (search needs) (zlo .greater3 .ensures) i;
+        hi = end lesser {r = c .lesser3 .result} (a .zhi) (b .zhi) (search needs) (c .lesser3 .ensures) i;
       };
     }
 

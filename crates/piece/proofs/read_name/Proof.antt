@@ -5,7 +5,7 @@ use mathlib.Core.Path.{_≡_, refl}
 use borrow.Author.Needs.{needs}
 use lib.ListN.{drop}
 use Rattle.rules.specs.declared.Kind.{Kind}
-use Rattle.rules.specs.declared.Kind.the-variants.{Box, Wedge, Drum, Union, Inter, Diff}
+use Rattle.rules.specs.declared.Kind.the-variants.{Box, Wedge, Drum, Union, Inter, Diff, Triangle}
 use Rattle.rules.specs.Text.{kindName}
 use Rattle.piece.proofs.ReadPieces.{named, not-named, named-last}
 use Rattle.piece.proofs.read_name.Statement.{statement}
@@ -98,19 +98,35 @@ start e = not-first e .before .before .before .before
 try-name-requires-6 : tie.Need-try-name-requires-6
 try-name-requires-6 c κs = (start (c .before) .pre, refl)
 
-none : (c : tie.After-try-name6) → c .try-name6 .result .right ≡ false → (k : Kind) (rest : List ℕ)
-    → drop (start (c .before .before) .args .at) (start (c .before .before) .args .text .now) ≡ kindName k ++ rest → ⊥
-none c h Box = let e = not-first (c .before .before) in not-named _ _ (e .before .try-name .ensures) (e .if1 .left)
-none c h Wedge = let e = not-second (c .before .before) in not-named _ _ (e .before .try-name2 .ensures) (e .if2 .left)
-none c h Drum = let e = not-third (c .before .before) in not-named _ _ (e .before .try-name3 .ensures) (e .if3 .left)
-none c h Union = let e = not-fourth (c .before .before) in not-named _ _ (e .before .try-name4 .ensures) (e .if4 .left)
-none c h Inter = let e = c .before .before in not-named _ _ (e .before .try-name5 .ensures) (e .if5 .left)
-none c h Diff = not-named _ _ (c .try-name6 .ensures) h
-
 returns-6 : tie.Need-returns-6
 returns-6 c =
-    let s = start (c .before .before) in
-    named-last (s .args .text .now) (s .args .at) (c .try-name6 .ensures) (none c)
+    let s = start (c .before .before .before) in
+    named (s .args .text .now) (s .args .at) (c .before .try-name6 .ensures) (c .if6 .taken)
+
+-- and not the sixth
+abbrev not-fifth : tie.Else6 → tie.Else5
+not-fifth e = e .before .before .before
+
+slice-aggregate-try-name-7 : tie.Need-slice-aggregate-try-name-7
+slice-aggregate-try-name-7 c = search needs
+
+try-name-requires-7 : tie.Need-try-name-requires-7
+try-name-requires-7 c κs = (start (not-fifth (c .before)) .pre, refl)
+
+none : (c : tie.After-try-name7) → c .try-name7 .result .right ≡ false → (k : Kind) (rest : List ℕ)
+    → drop (start (not-fifth (c .before .before)) .args .at) (start (not-fifth (c .before .before)) .args .text .now) ≡ kindName k ++ rest → ⊥
+none c h Box = let e = not-first (not-fifth (c .before .before)) in not-named _ _ (e .before .try-name .ensures) (e .if1 .left)
+none c h Wedge = let e = not-second (not-fifth (c .before .before)) in not-named _ _ (e .before .try-name2 .ensures) (e .if2 .left)
+none c h Drum = let e = not-third (not-fifth (c .before .before)) in not-named _ _ (e .before .try-name3 .ensures) (e .if3 .left)
+none c h Union = let e = not-fourth (not-fifth (c .before .before)) in not-named _ _ (e .before .try-name4 .ensures) (e .if4 .left)
+none c h Inter = let e = not-fifth (c .before .before) in not-named _ _ (e .before .try-name5 .ensures) (e .if5 .left)
+none c h Diff = let e = c .before .before in not-named _ _ (e .before .try-name6 .ensures) (e .if6 .left)
+none c h Triangle = not-named _ _ (c .try-name7 .ensures) h
+
+returns-7 : tie.Need-returns-7
+returns-7 c =
+    let s = start (not-fifth (c .before .before)) in
+    named-last (s .args .text .now) (s .args .at) (c .try-name7 .ensures) (none c)
 
 pub read-name-spec : {M : Type 1} → statement M
 read-name-spec =
@@ -133,4 +149,7 @@ read-name-spec =
     returns-5
     slice-aggregate-try-name-6
     try-name-requires-6
-    returns-6)
+    returns-6
+    slice-aggregate-try-name-7
+    try-name-requires-7
+    returns-7)

@@ -43,20 +43,26 @@ enum-known-s-2 c = search needs
 enum-known-s-3 : tie.Need-enum-known-s-3
 enum-known-s-3 c = search needs
 
-sub-t6 : tie.Need-sub-t6
-sub-t6 c = sub-fits (cx c) (rx c) tt
+sub-t7 : tie.Need-sub-t7
+sub-t7 c = sub-fits (cx c) (rx c) tt
 
-add-t7 : tie.Need-add-t7
-add-t7 c = let d = c .before .before in add-fits (cx d) (rx d) tt
+add-t8 : tie.Need-add-t8
+add-t8 c = let d = c .before .before in add-fits (cx d) (rx d) tt
 
-sub-t8 : tie.Need-sub-t8
-sub-t8 c = let d = c .before .before .before .before in sub-fits (cy d) (ry d) tt
+sub-t9 : tie.Need-sub-t9
+sub-t9 c = let d = c .before .before .before .before in sub-fits (cy d) (ry d) tt
 
-add-t9 : tie.Need-add-t9
-add-t9 c =
+add-t10 : tie.Need-add-t10
+add-t10 c =
     let at-struct-known3 = c .before .before .before in
     let d = at-struct-known3 .before .before .before in
     add-fits (cy d) (ry d) tt
+
+enum-known-s-4 : tie.Need-enum-known-s-4
+enum-known-s-4 c = search needs
+
+triangle-box-requires : tie.Need-triangle-box-requires
+triangle-box-requires c κs = search needs
 
 returns : tie.Need-returns
 returns c = ap boxOf (sym (c .before .s .given .1))
@@ -78,6 +84,9 @@ returns-3 c =
     })
     ∙ ap boxOf (sym (d .before .before .before .s3 .given .1))
 
+returns-4 : tie.Need-returns-4
+returns-4 c = c .triangle-box .ensures ∙ ap boxOf (sym (c .before .before .s4 .given .1))
+
 pub box-of-spec : {M : Type 1} → statement M
 box-of-spec =
     tie.close
@@ -85,10 +94,13 @@ box-of-spec =
     enum-known-s
     enum-known-s-2
     enum-known-s-3
-    sub-t6
-    add-t7
-    sub-t8
-    add-t9
+    sub-t7
+    add-t8
+    sub-t9
+    add-t10
+    enum-known-s-4
+    triangle-box-requires
     returns
     returns-2
-    returns-3)
+    returns-3
+    returns-4)

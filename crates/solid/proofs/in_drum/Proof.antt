@@ -12,6 +12,7 @@ use Rattle.rules.specs.Fields.{radii}
 use Rattle.rules.specs.Inside.{inEllipse}
 use Rattle.rules.specs.Ranges.{within, columns, codes}
 use Rattle.laws.proofs.Ranges.{x-in, y-in, cx-in, cy-in, rx-in, ry-in}
+use Rattle.solid.proofs.Ends.{within-read}
 use Rattle.solid.proofs.in_drum.Statement.{statement}
 use Rattle.solid.proofs.in_drum.Tie as tie
 
@@ -32,7 +33,7 @@ fits s = record { cx = search needs; cy = search needs; rx = search needs; ry = 
 -- the test of the frame, as it was made
 framed : (s : tie.Start) → let d = s .args .d in let z = toZ w32 (ofZ w32 (s .args .p .z)) in
     (leZ (toZ w32 (ofZ w32 (d .zlo))) z && leZ z (toZ w32 (ofZ w32 (d .zhi)))) ≡ within (record { lo = d .zlo; hi = d .zhi }) (s .args .p .z)
-framed s = let f = fits s in let z = toZ-ofZ w32 _ (f .z) in λ i. leZ (toZ-ofZ w32 _ (f .zlo) i) (z i) && leZ (z i) (toZ-ofZ w32 _ (f .zhi) i)
+framed s = let f = fits s in within-read (f .zlo) (f .zhi) (f .z)
 
 returns : tie.Need-returns
 returns c =

@@ -22,6 +22,12 @@ enum-known-s-3 c = search needs
 in-drum-requires : tie.Need-in-drum-requires
 in-drum-requires c κs = let s = c .before .before .before in (ap solidRight (sym (c .before .s3 .given .1)) ∙ s .pre .0, s .pre .1)
 
+enum-known-s-4 : tie.Need-enum-known-s-4
+enum-known-s-4 c = search needs
+
+in-triangle-requires : tie.Need-in-triangle-requires
+in-triangle-requires c κs = let s = c .before .before .before in (ap solidRight (sym (c .before .s4 .given .1)) ∙ s .pre .0, s .pre .1)
+
 returns : tie.Need-returns
 returns c = rw (c .before .before .s .given .1) (c .in-box .ensures)
 
@@ -30,6 +36,9 @@ returns-2 c = rw (c .before .before .s2 .given .1) (c .in-wedge .ensures)
 
 returns-3 : tie.Need-returns-3
 returns-3 c = rw (c .before .before .s3 .given .1) (c .in-drum .ensures)
+
+returns-4 : tie.Need-returns-4
+returns-4 c = rw (c .before .before .s4 .given .1) (c .in-triangle .ensures)
 
 pub in-solid-spec : {M : Type 1} → statement M
 in-solid-spec =
@@ -41,6 +50,9 @@ in-solid-spec =
     in-wedge-requires
     enum-known-s-3
     in-drum-requires
+    enum-known-s-4
+    in-triangle-requires
     returns
     returns-2
-    returns-3)
+    returns-3
+    returns-4)

@@ -77,6 +77,17 @@ put-bytes-requires-6 c κs =
     let at-match6 = c .before .before .before in
     omega (arith, size (c .before .before .enum-told6 .given .1), at-match6 .before .before .pre)
 
+enum-told-7 : tie.Need-enum-told-7
+enum-told-7 c = search needs
+
+slice-aggregate-put-bytes-7 : tie.Need-slice-aggregate-put-bytes-7
+slice-aggregate-put-bytes-7 c = search needs
+
+put-bytes-requires-7 : tie.Need-put-bytes-requires-7
+put-bytes-requires-7 c κs =
+    let at-match7 = c .before .before .before in
+    omega (arith, size (c .before .before .enum-told7 .given .1), at-match7 .before .before .pre)
+
 same-length : tie.Need-same-length
 same-length c = search needs
 
@@ -125,6 +136,14 @@ returns-6 c =
     let at-put-bytes6 = c .before .before in
     put-same (ap kindName (at-put-bytes6 .before .before .before .enum-told6 .given .1)) (at-put-bytes6 .put-bytes6 .ensures)
 
+same-length-7 : tie.Need-same-length-7
+same-length-7 c = search needs
+
+returns-7 : tie.Need-returns-7
+returns-7 c =
+    let at-put-bytes7 = c .before .before in
+    put-same (ap kindName (at-put-bytes7 .before .before .before .enum-told7 .given .1)) (at-put-bytes7 .put-bytes7 .ensures)
+
 pub put-name-spec : {M : Type 1} → statement M
 put-name-spec =
     tie.close
@@ -147,6 +166,9 @@ put-name-spec =
     enum-told-6
     slice-aggregate-put-bytes-6
     put-bytes-requires-6
+    enum-told-7
+    slice-aggregate-put-bytes-7
+    put-bytes-requires-7
     same-length
     returns
     same-length-2
@@ -158,4 +180,6 @@ put-name-spec =
     same-length-5
     returns-5
     same-length-6
-    returns-6)
+    returns-6
+    same-length-7
+    returns-7)

@@ -3,21 +3,22 @@ use mathlib.Core.Path.{_≡_, sym, ap}
 use mir.Syntax.{w32}
 use Rattle.ground.proofs.Signed.{from-bits}
 use Rattle.rules.specs.Kinds.{kindNumber}
-use Rattle.rules.specs.declared.Kind.the-variants.{Box, Wedge, Drum, Union, Inter, Diff}
+use Rattle.rules.specs.declared.Kind.the-variants.{Box, Wedge, Drum, Union, Inter, Diff, Triangle}
 use Rattle.rules.specs.declared.Kind.{Kind}
 use Rattle.table.proofs.Rows.{known, none-of}
 use Rattle.table.specs.Reading.{namedBy}
 use Rattle.table.proofs.decode.kind_of.Statement.{statement}
 use Rattle.table.proofs.decode.kind_of.Tie as tie
 
--- a number that is none of the six is no kind's
-other : {n : ℕ} → (n ≡ 0 → ⊥) → (n ≡ 1 → ⊥) → (n ≡ 2 → ⊥) → (n ≡ 3 → ⊥) → (n ≡ 4 → ⊥) → (n ≡ 5 → ⊥) → (k : Kind) → n ≡ kindNumber k → ⊥
-other a b c d e f Box = a
-other a b c d e f Wedge = b
-other a b c d e f Drum = c
-other a b c d e f Union = d
-other a b c d e f Inter = e
-other a b c d e f Diff = f
+-- a number that is none of the seven is no kind's
+other : {n : ℕ} → (n ≡ 0 → ⊥) → (n ≡ 1 → ⊥) → (n ≡ 2 → ⊥) → (n ≡ 3 → ⊥) → (n ≡ 4 → ⊥) → (n ≡ 5 → ⊥) → (n ≡ 6 → ⊥) → (k : Kind) → n ≡ kindNumber k → ⊥
+other a b c d e f g Box = a
+other a b c d e f g Wedge = b
+other a b c d e f g Drum = c
+other a b c d e f g Union = d
+other a b c d e f g Inter = e
+other a b c d e f g Diff = f
+other a b c d e f g Triangle = g
 
 returns : tie.Need-returns
 returns c = known Box (from-bits w32 (c .before .fits .kind) (c .match .keys1))
@@ -38,11 +39,14 @@ returns-6 : tie.Need-returns-6
 returns-6 c = known Diff (from-bits w32 (c .before .fits .kind) (c .match .keys6))
 
 returns-7 : tie.Need-returns-7
-returns-7 c =
+returns-7 c = known Triangle (from-bits w32 (c .before .fits .kind) (c .match .keys7))
+
+returns-8 : tie.Need-returns-8
+returns-8 c =
     let z = c .before .args .kind in
     let h = c .match .rest in
-    sym (ap namedBy (none-of z (other (h .0 .0 .0 .0 .0 .1) (h .0 .0 .0 .0 .1) (h .0 .0 .0 .1) (h .0 .0 .1) (h .0 .1) (h .1))))
+    sym (ap namedBy (none-of z (other (h .0 .0 .0 .0 .0 .0 .1) (h .0 .0 .0 .0 .0 .1) (h .0 .0 .0 .0 .1) (h .0 .0 .0 .1) (h .0 .0 .1) (h .0 .1) (h .1))))
 
 pub kind-of-spec : {M : Type 1} → statement M
 kind-of-spec =
-    tie.close (tie.spec returns returns-2 returns-3 returns-4 returns-5 returns-6 returns-7)
+    tie.close (tie.spec returns returns-2 returns-3 returns-4 returns-5 returns-6 returns-7 returns-8)

@@ -12,6 +12,7 @@ use Rattle.rules.specs.declared.DrumShape.{DrumShape}
 use Rattle.rules.specs.declared.Kind.the-variants as kind
 use Rattle.rules.specs.declared.Primitive.the-variants as primitive
 use Rattle.rules.specs.declared.Row.the-variants.{Solid}
+use Rattle.rules.specs.declared.TriangleShape.{TriangleShape}
 use Rattle.rules.specs.declared.WedgeShape.{WedgeShape}
 use Rattle.table.proofs.Rows.{row-of, operates}
 use Rattle.table.proofs.decode.read_row.Statement.{statement}
@@ -29,6 +30,9 @@ wedge-at-requires c κs = search needs
 drum-at-requires : tie.Need-drum-at-requires
 drum-at-requires c κs = search needs
 
+triangle-at-requires : tie.Need-triangle-at-requires
+triangle-at-requires c κs = search needs
+
 operation-at-requires : tie.Need-operation-at-requires
 operation-at-requires c κs =
     let s = c .before .before in
@@ -38,7 +42,7 @@ operation-at-requires c κs =
     let row = s .args .row in
     let e : w .result ≡ wordAt t row 0 = w .ensures in
     let ne : (n : ℕ) → (ofZ w32 (w .result) ≡ n → ⊥) → ofZ w32 (wordAt t row 0) ≡ n → ⊥ = λ n f g. f (ap (ofZ w32) e ∙ g) in
-    (s .pre .0, subst (IsOperation t row) (sym (read w32 (w .ok) e)) (operates t row (s .pre .1) (ne 0 (h .0 .0 .1)) (ne 1 (h .0 .1)) (ne 2 (h .1))))
+    (s .pre .0, subst (IsOperation t row) (sym (read w32 (w .ok) e)) (operates t row (s .pre .1) (ne 0 (h .0 .0 .0 .1)) (ne 1 (h .0 .0 .1)) (ne 2 (h .0 .1)) (ne 6 (h .1))))
 
 returns : tie.Need-returns
 returns c =
@@ -59,7 +63,13 @@ returns-3 c =
     ap (λ (b : DrumShape). some (Solid (primitive.Drum b))) (c .drum-at .ensures) ∙ row-of (s .args .table .now) (s .args .row) kind.Drum (sym (w .ensures) ∙ from-bits w32 (record { sfits = w .ok }) (c .before .match .keys3))
 
 returns-4 : tie.Need-returns-4
-returns-4 c = search needs
+returns-4 c =
+    let s = c .before .before .before in
+    let w = c .before .before .word in
+    ap (λ (b : TriangleShape). some (Solid (primitive.Triangle b))) (c .triangle-at .ensures) ∙ row-of (s .args .table .now) (s .args .row) kind.Triangle (sym (w .ensures) ∙ from-bits w32 (record { sfits = w .ok }) (c .before .match .keys4))
+
+returns-5 : tie.Need-returns-5
+returns-5 c = search needs
 
 pub read-row-spec : {M : Type 1} → statement M
 read-row-spec =
@@ -69,8 +79,10 @@ read-row-spec =
     box-at-requires
     wedge-at-requires
     drum-at-requires
+    triangle-at-requires
     operation-at-requires
     returns
     returns-2
     returns-3
-    returns-4)
+    returns-4
+    returns-5)

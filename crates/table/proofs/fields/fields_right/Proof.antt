@@ -1,6 +1,6 @@
 use mathlib.Core.Path.{ap, _∙_}
 use borrow.Author.Needs.{needs}
-use Rattle.rules.specs.Fields.{boxRight, wedgeRight, drumRight}
+use Rattle.rules.specs.Fields.{boxRight, wedgeRight, drumRight, triangleRight}
 use Rattle.table.proofs.fields.fields_right.Statement.{statement}
 use Rattle.table.proofs.fields.fields_right.Tie as tie
 
@@ -40,6 +40,15 @@ enum-told-5 c = search needs
 enum-told-6 : tie.Need-enum-told-6
 enum-told-6 c = search needs
 
+enum-told-7 : tie.Need-enum-told-7
+enum-told-7 c = search needs
+
+triangle-at-requires : tie.Need-triangle-at-requires
+triangle-at-requires c κs = search needs
+
+triangle-right-requires : tie.Need-triangle-right-requires
+triangle-right-requires c κs = search needs
+
 returns : tie.Need-returns
 returns c = rw (c .before .before .enum-told .given .1) (c .box-right .ensures ∙ ap boxRight (c .before .box-at .ensures))
 
@@ -58,6 +67,9 @@ returns-5 c = search needs
 returns-6 : tie.Need-returns-6
 returns-6 c = search needs
 
+returns-7 : tie.Need-returns-7
+returns-7 c = rw (c .before .before .enum-told7 .given .1) (c .triangle-right .ensures ∙ ap triangleRight (c .before .triangle-at .ensures))
+
 pub fields-right-spec : {M : Type 1} → statement M
 fields-right-spec =
     tie.close
@@ -74,9 +86,13 @@ fields-right-spec =
     enum-told-4
     enum-told-5
     enum-told-6
+    enum-told-7
+    triangle-at-requires
+    triangle-right-requires
     returns
     returns-2
     returns-3
     returns-4
     returns-5
-    returns-6)
+    returns-6
+    returns-7)

@@ -1,7 +1,7 @@
 use lib.Signed.{leZ}
-use Rattle.fate.proofs.Ends.{took, left}
-use Rattle.fate.proofs.greater.Statement.{statement}
-use Rattle.fate.proofs.greater.Tie as tie
+use Rattle.solid.proofs.Ends.{took, left}
+use Rattle.solid.proofs.greater.Statement.{statement}
+use Rattle.solid.proofs.greater.Tie as tie
 
 returns : tie.Need-returns
 returns c = let f = c .before .fits in took leZ (f .a) (f .b) _ _ (f .b) (c .if1 .taken)
