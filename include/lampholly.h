@@ -32,7 +32,7 @@
 
    Threads: calls keep no state, so they may run at the same time unless one writes a buffer that is lent to another.
    Stack: bytes as measured (no bounds) on tables of 127 rows: check 328; write_text 392; list_search 488; list_point 504;
-   list_search_frames 616; tree_point 4,320; tree_search 4,384; read_text 7,680; make_list 11,408. docs/PERFORMANCE.md says how.
+   list_search_frames 616; tree_point 4,312; tree_search 4,376; read_text 7,680; make_list 11,296. docs/PERFORMANCE.md says how.
    Cost: linear in the rows for check, tree_point and write_text; in the bytes for read_text; in samples * rows for tree_search;
    in rows + list words for list_point; in samples * (rows + list words) for list_search. list_search_frames checks table and
    list once, then takes for each frame what list_search takes for it. make_list takes rows * rows, and then what the choices

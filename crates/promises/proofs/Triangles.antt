@@ -79,7 +79,7 @@ differ a c x =
 
 -- ---- all corners on one side of the point
 
--- a sum of three that are each at least 0 is 0 only if each is
+-- r, p and q times the three sides add up to 0; so where no side is below 0 each is 0, and the area with them
 level : (p q r a b c y : ℕ) → 0 < p → 0 < q → 0 < r → p * y + q * a ≤ p * b + q * y → q * y + r * b ≤ q * c + r * y → r * y + p * c ≤ r * a + p * y
     → (p * b + r * c + (q * c + r * a) ≡ p * c + r * b + (q * a + r * c))
 level p q r a b c y hp hq hr hu hv hw =
@@ -152,6 +152,10 @@ Ahead a = (n : ℕ) × (a .right ≡ pos (suc n))
 abbrev beside : Arrow → Arrow → Arrow → Bool
 beside a b c = oneSided (spanned a b) (spanned b c) (spanned c a)
 
+-- such an arrow, its way up held against a number that others share
+placed : (a : Arrow) (n m m′ k y : ℕ) → a .right ≡ pos (suc n) → a .up ≡ subℕ m m′ → m + y ≡ k + m′ → a ≡ record { right = subℕ (suc n) 0; up = subℕ k y }
+placed a n m m′ k y e f g = λ d. record { right = (e ∙ sym (is-pos (suc n) 0 (suc n) (omega arith))) d; up = (f ∙ same-difference m m′ k y g) d }
+
 all-ahead : (a b c : Arrow) → Ahead a → Ahead b → Ahead c → beside a b c ≡ true → spanned (less a c) (less b c) ≡ pos 0
 unfolding Ahead
 all-ahead a b c (p, e) (q, f) (r, g) h =
@@ -159,12 +163,9 @@ all-ahead a b c (p, e) (q, f) (r, g) h =
     let (B, B′, j) = difference (b .up) in
     let (C, C′, k) = difference (c .up) in
     let y = A′ + B′ + C′ in
-    let a-is : a ≡ record { right = subℕ (suc p) 0; up = subℕ (A + B′ + C′) y }
-    = λ d. record { right = (e ∙ sym (is-pos (suc p) 0 (suc p) (omega arith))) d; up = (i ∙ same-difference A A′ (A + B′ + C′) y (omega arith)) d } in
-    let b-is : b ≡ record { right = subℕ (suc q) 0; up = subℕ (B + A′ + C′) y }
-    = λ d. record { right = (f ∙ sym (is-pos (suc q) 0 (suc q) (omega arith))) d; up = (j ∙ same-difference B B′ (B + A′ + C′) y (omega arith)) d } in
-    let c-is : c ≡ record { right = subℕ (suc r) 0; up = subℕ (C + A′ + B′) y }
-    = λ d. record { right = (g ∙ sym (is-pos (suc r) 0 (suc r) (omega arith))) d; up = (k ∙ same-difference C C′ (C + A′ + B′) y (omega arith)) d } in
+    let a-is = placed a p A A′ (A + B′ + C′) y e i (omega arith) in
+    let b-is = placed b q B B′ (B + A′ + C′) y f j (omega arith) in
+    let c-is = placed c r C C′ (C + A′ + B′) y g k (omega arith) in
     (λ d. spanned (less (a-is d) (c-is d)) (less (b-is d) (c-is d)))
     ∙ flat (suc p) (suc q) (suc r) (A + B′ + C′) (B + A′ + C′) (C + A′ + B′) y (omega arith) (omega arith) (omega arith) (sym (λ d. beside (a-is d) (b-is d) (c-is d)) ∙ h)
 

@@ -1,7 +1,7 @@
 -- What a row's kind word says of the row. Assumes nothing.
 use Prim.Native.Nat.{ℕ, _<_, _^_}
 use native.Mathlib.Omega.{arith}
-use mathlib.Core.Bool.{Bool, false, _&&_}
+use mathlib.Core.Bool.{Bool, true, false, _&&_}
 use mathlib.Core.List.{List}
 use mathlib.Core.Option.{Option, none, some}
 use mathlib.Core.Path.{_≡_, refl, sym, ap, _∙_}
@@ -38,6 +38,10 @@ module _ (z : ℤ) (f : (k : Kind) → ofZ w32 z ≡ kindNumber k → ⊥) where
 
 -- ---- a row from its kind
 
+-- the test of word 0 for an operation
+abbrev pub isOperation : ℤ → Bool
+isOperation z = leZ (pos 3) z && leZ z (pos 5)
+
 module _ (t : List ℤ) (row : ℕ) where
   -- a row whose word 0 is the number of k is a row of kind k
   pub row-of : (k : Kind) → wordAt t row 0 ≡ pos (kindNumber k) → rowOf k (wordAt t row) ≡ rowAt t row
@@ -48,27 +52,46 @@ module _ (t : List ℤ) (row : ℕ) where
   op-words op (pos l) (negsuc r) e = let z : _≡_ {A = ℕ} 0 1 = cc in absurd (omega arith)
   op-words op (negsuc l) b e = let z : _≡_ {A = ℕ} 0 1 = cc in absurd (omega arith)
 
-  -- a sound row that is no primitive is an operation
-  module _ (s : SoundRow t row) (n0 : ofZ w32 (wordAt t row 0) ≡ 0 → ⊥) (n1 : ofZ w32 (wordAt t row 0) ≡ 1 → ⊥) (n2 : ofZ w32 (wordAt t row 0) ≡ 2 → ⊥)
-      (n6 : ofZ w32 (wordAt t row 0) ≡ 6 → ⊥) where
-    pub operates : IsOperation t row (wordAt t row 0)
-    operates = go (kindAt t row) refl
-      where
-        by : (k : Kind) → kindAt t row ≡ some k → (isPrimitive k ≡ false) × (T (nonNeg (wordAt t row 1)) × T (nonNeg (wordAt t row 2))) → IsOperation t row (wordAt t row 0)
-        by k e p = record { same = refl; known = k; is = e; combines = p .0; left = p .1 .0; right = p .1 .1 }
+  -- the kind of a row that can be read
+  known-kind : SoundRow t row → (k : Kind) × (kindAt t row ≡ some k) × (wordAt t row 0 ≡ pos (kindNumber k))
+  known-kind s = go (kindAt t row) refl
+    where
+      go : (x : Option Kind) → kindAt t row ≡ x → (k : Kind) × (kindAt t row ≡ some k) × (wordAt t row 0 ≡ pos (kindNumber k))
+      go none e = let z = sym (ap (λ (x : Option Kind). rowBy x (wordAt t row)) e) ∙ s .is in let y : _≡_ {A = ℕ} 0 1 = cc in absurd (omega arith)
+      go (some k) e = (k, e, kind-number (wordAt t row 0) e)
 
-        reads : (k : Kind) → kindAt t row ≡ some k → rowOf k (wordAt t row) ≡ some (s .reads)
-        reads k e = sym (ap (λ (x : Option Kind). rowBy x (wordAt t row)) e) ∙ s .is
+  -- a sound row that passes it is an operation
+  pub operates : SoundRow t row → isOperation (wordAt t row 0) ≡ true → IsOperation t row (wordAt t row 0)
+  operates s h = let (k, e, z) = known-kind s in go k e (sym (ap isOperation z) ∙ h)
+    where
+      by : (k : Kind) → kindAt t row ≡ some k → (isPrimitive k ≡ false) × (T (nonNeg (wordAt t row 1)) × T (nonNeg (wordAt t row 2))) → IsOperation t row (wordAt t row 0)
+      by k e p = record { same = refl; known = k; is = e; combines = p .0; left = p .1 .0; right = p .1 .1 }
 
-        go : (x : Option Kind) → kindAt t row ≡ x → IsOperation t row (wordAt t row 0)
-        go none e = let z = sym (ap (λ (x : Option Kind). rowBy x (wordAt t row)) e) ∙ s .is in let y : _≡_ {A = ℕ} 0 1 = cc in absurd (omega arith)
-        go (some kind.Box) e = absurd (n0 (ap (ofZ w32) (kind-number (wordAt t row 0) e)))
-        go (some kind.Wedge) e = absurd (n1 (ap (ofZ w32) (kind-number (wordAt t row 0) e)))
-        go (some kind.Drum) e = absurd (n2 (ap (ofZ w32) (kind-number (wordAt t row 0) e)))
-        go (some kind.Union) e = by kind.Union e (refl, op-words Union (wordAt t row 1) (wordAt t row 2) (reads kind.Union e))
-        go (some kind.Inter) e = by kind.Inter e (refl, op-words Inter (wordAt t row 1) (wordAt t row 2) (reads kind.Inter e))
-        go (some kind.Triangle) e = absurd (n6 (ap (ofZ w32) (kind-number (wordAt t row 0) e)))
-        go (some kind.Diff) e = by kind.Diff e (refl, op-words Diff (wordAt t row 1) (wordAt t row 2) (reads kind.Diff e))
+      reads : (k : Kind) → kindAt t row ≡ some k → rowOf k (wordAt t row) ≡ some (s .reads)
+      reads k e = sym (ap (λ (x : Option Kind). rowBy x (wordAt t row)) e) ∙ s .is
+
+      go : (k : Kind) → kindAt t row ≡ some k → isOperation (pos (kindNumber k)) ≡ true → IsOperation t row (wordAt t row 0)
+      go kind.Box e h = false-true h
+      go kind.Wedge e h = false-true h
+      go kind.Drum e h = false-true h
+      go kind.Union e h = by kind.Union e (refl, op-words Union (wordAt t row 1) (wordAt t row 2) (reads kind.Union e))
+      go kind.Inter e h = by kind.Inter e (refl, op-words Inter (wordAt t row 1) (wordAt t row 2) (reads kind.Inter e))
+      go kind.Diff e h = by kind.Diff e (refl, op-words Diff (wordAt t row 1) (wordAt t row 2) (reads kind.Diff e))
+      go kind.Triangle e h = false-true h
+
+  -- one that does not, and is no box, wedge or drum, is a triangle
+  pub last-solid : SoundRow t row → isOperation (wordAt t row 0) ≡ false → (ofZ w32 (wordAt t row 0) ≡ 0 → ⊥) → (ofZ w32 (wordAt t row 0) ≡ 1 → ⊥) → (ofZ w32 (wordAt t row 0) ≡ 2 → ⊥)
+      → wordAt t row 0 ≡ pos 6
+  last-solid s h n0 n1 n2 = let (k, e, z) = known-kind s in go k z (sym (ap isOperation z) ∙ h)
+    where
+      go : (k : Kind) → wordAt t row 0 ≡ pos (kindNumber k) → isOperation (pos (kindNumber k)) ≡ false → wordAt t row 0 ≡ pos 6
+      go kind.Box z h = absurd (n0 (ap (ofZ w32) z))
+      go kind.Wedge z h = absurd (n1 (ap (ofZ w32) z))
+      go kind.Drum z h = absurd (n2 (ap (ofZ w32) z))
+      go kind.Union z h = false-true (sym h)
+      go kind.Inter z h = false-true (sym h)
+      go kind.Diff z h = false-true (sym h)
+      go kind.Triangle z h = z
 
   module _ {z : ℤ} (o : IsOperation t row z) where
     -- an operation of which word 0 is known

@@ -138,11 +138,14 @@ pub fn read_row(table: &[i32], row: usize) -> Row
     ensures { λ r. ⌜ some r ≡ rowAt (now (table .entry)) row ⌝ }
 {
     let kind = word(table, row, 0);
+    // Operations first: the rest is then few enough for tests one after the other, which are quicker than a jump by the kind.
+    if (3 <= kind) & (kind <= 5) {
+        return operation_at(table, row, kind);
+    }
     match kind {
         0 => Row::Solid(Primitive::Box(box_at(table, row))),
         1 => Row::Solid(Primitive::Wedge(wedge_at(table, row))),
         2 => Row::Solid(Primitive::Drum(drum_at(table, row))),
-        6 => Row::Solid(Primitive::Triangle(triangle_at(table, row))),
-        _ => operation_at(table, row, kind),
+        _ => Row::Solid(Primitive::Triangle(triangle_at(table, row))),
     }
 }
