@@ -3,10 +3,10 @@
 use Prim.Native.Nat.{ℕ, zero, suc, _+_, _-_, _*_, _≤_}
 use native.Mathlib.Decide.{decLe}
 use native.Mathlib.Omega.{arith}
-use mathlib.Core.Path.{_≡_, sym, ap, subst, _∙_}
+use mathlib.Core.Path.{_≡_, sym, ap, ap₂, subst, _∙_}
 use borrow.Author.Tests.{le-leb, lt-leb, lt-ltb, le-ltb}
 use lib.Dec.{leb}
-use lib.IntN.{ℤ, pos, negsuc, negℤ, subℕ, _+ℤ_, _-ℤ_, _*ℤ_}
+use lib.IntN.{ℤ, pos, negsuc, negℤ, subℕ, _+ℤ_, _-ℤ_, _*ℤ_, *ℤ-comm}
 use lib.Signed.{leZ}
 
 -- ---- a difference and its value
@@ -61,7 +61,7 @@ le-differences a b c d = by-value (λ a b z. leZ z (subℕ c d) ≡ leb (a + d) 
         by-value (λ c d z. leZ (negsuc m) z ≡ leb (a + d) (c + (a + suc m)))
         (λ d n. sym (le-leb (a + d) (d + n + (a + suc m)) (omega arith))) (λ c n. leb-moved (a + c + 1) n m (a + (c + suc n)) (c + (a + suc m)) (omega arith) (omega arith)) c d
 
-add-differences : (a b c d : ℕ) → subℕ a b +ℤ subℕ c d ≡ subℕ (a + c) (b + d)
+pub add-differences : (a b c d : ℕ) → subℕ a b +ℤ subℕ c d ≡ subℕ (a + c) (b + d)
 add-differences a b c d = by-value (λ a b z. z +ℤ subℕ c d ≡ subℕ (a + c) (b + d)) over under a b
   where
     over : (b m : ℕ) → pos m +ℤ subℕ c d ≡ subℕ (b + m + c) (b + d)
@@ -95,3 +95,28 @@ mul-differences a b c d = by-value (λ a b z. z *ℤ subℕ c d ≡ subℕ (a * 
         by-value (λ c d z. negsuc m *ℤ z ≡ subℕ (a * c + (a + suc m) * d) (a * d + (a + suc m) * c))
         (λ d n. sym (is-neg (a * (d + n) + (a + suc m) * d) (a * d + (a + suc m) * (d + n)) (suc m * n) (omega arith)))
         (λ c n. sym (is-pos (a * c + (a + suc m) * (c + suc n)) (a * (c + suc n) + (a + suc m) * c) (suc m * suc n) (omega arith))) c d
+
+-- ---- laws of whole numbers
+
+-- how two numbers differ is how they differ from a third
+pub differ : (a c x : ℤ) → a -ℤ c ≡ (a -ℤ x) -ℤ (c -ℤ x)
+differ a c x =
+    let (p, p′, e) = difference a in
+    let (r, r′, f) = difference c in
+    let (k, k′, g) = difference x in
+    rw (e, f, g, sub-differences p p′ r r′, sub-differences p p′ k k′, sub-differences r r′ k k′, sub-differences (p + k′) (p′ + k) (r + k′) (r′ + k))
+    (same-difference (p + r′) (p′ + r) (p + k′ + (r′ + k)) (p′ + k + (r + k′)) (omega arith))
+
+-- a product of a difference
+pub less-times : (p r k : ℤ) → (p -ℤ r) *ℤ k ≡ p *ℤ k -ℤ r *ℤ k
+less-times p r k =
+    let (a, a′, e) = difference p in
+    let (b, b′, f) = difference r in
+    let (c, c′, g) = difference k in
+    rw (e, f, g)
+    (ap (λ (z : ℤ). z *ℤ subℕ c c′) (sub-differences a a′ b b′) ∙ mul-differences (a + b′) (a′ + b) c c′
+    ∙ same-difference ((a + b′) * c + (a′ + b) * c′) ((a + b′) * c′ + (a′ + b) * c) (a * c + a′ * c′ + (b * c′ + b′ * c)) (a * c′ + a′ * c + (b * c + b′ * c′)) (omega arith)
+    ∙ sym (ap₂ _-ℤ_ (mul-differences a a′ c c′) (mul-differences b b′ c c′) ∙ sub-differences (a * c + a′ * c′) (a * c′ + a′ * c) (b * c + b′ * c′) (b * c′ + b′ * c)))
+
+pub times-less : (k p r : ℤ) → k *ℤ (p -ℤ r) ≡ k *ℤ p -ℤ k *ℤ r
+times-less k p r = *ℤ-comm k (p -ℤ r) ∙ less-times p r k ∙ ap₂ _-ℤ_ (*ℤ-comm p k) (*ℤ-comm r k)

@@ -1,5 +1,5 @@
 -- A triangle holds no point out of its box. Arrows run from the point to the corners: if all three have a part in one direction, and the point
--- is on no edge's wrong side, the triangle is flat. Assumes nothing.
+-- is on no edge's wrong side, its three sides are 0; they add up to twice the area, so the triangle is flat. Assumes nothing.
 use Prim.Native.Nat.{ℕ, zero, suc, _+_, _-_, _*_, _≤_, _<_}
 use native.Mathlib.Nat.{mul-le-mul-left, eq-of-mul-eq-mul-left}
 use native.Mathlib.Omega.{arith}
@@ -17,7 +17,8 @@ use Rattle.rules.specs.declared.TriangleShape.{TriangleShape}
 use Rattle.rules.specs.Fields.{triangleRight}
 use Rattle.rules.specs.Inside.{oneSided}
 use Rattle.rules.specs.Ranges.{within, lesser, greater, around}
-use Rattle.rules.specs.Sides.{side, twiceArea}
+use Rattle.rules.specs.Sides.{side}
+use Rattle.rules.proofs.Rounds.{sides-add}
 use Rattle.laws.proofs.Ranges.{second, third, not-flat}
 use Rattle.laws.proofs.Spaces.{lesser-most, greater-least}
 
@@ -33,14 +34,18 @@ arrow x y c = record { right = c .x -ℤ x; up = c .y -ℤ y }
 abbrev spanned : Arrow → Arrow → ℤ
 spanned a b = a .right *ℤ b .up -ℤ b .right *ℤ a .up
 
-abbrev less : Arrow → Arrow → Arrow
-less a b = record { right = a .right -ℤ b .right; up = a .up -ℤ b .up }
+-- the point is on no edge's wrong side; and its three sides together
+abbrev beside : Arrow → Arrow → Arrow → Bool
+beside a b c = oneSided (spanned a b) (spanned b c) (spanned c a)
+
+abbrev total : Arrow → Arrow → Arrow → ℤ
+total a b c = spanned a b +ℤ spanned b c +ℤ spanned c a
 
 -- a quarter turn
 abbrev turn : Arrow → Arrow
 turn a = record { right = a .up; up = negℤ (a .right) }
 
--- ---- laws of whole numbers, by their differences
+-- ---- a quarter turn changes no side
 
 -- what the area is the difference of, for arrows (p - p′, P - P′) and (q - q′, Q - Q′)
 abbrev plus : ℕ → ℕ → ℕ → ℕ → ℕ → ℕ → ℕ → ℕ → ℕ
@@ -65,31 +70,16 @@ turned a b =
     ∙ same-difference (plus P P′ p′ p Q Q′ q′ q) (minus P P′ p′ p Q Q′ q′ q) (plus p p′ P P′ q q′ Q Q′) (minus p p′ P P′ q q′ Q Q′) (omega arith)
     ∙ sym (spanned-difference p p′ P P′ q q′ Q Q′))
 
-less-turned : (a c : Arrow) → less (turn a) (turn c) ≡ turn (less a c)
-less-turned a c = λ i. record { right = a .up -ℤ c .up; up = sym (negℤ-+ℤ (a .right) (negℤ (c .right))) i }
-
--- how two numbers differ is how they differ from a third
-differ : (a c x : ℤ) → a -ℤ c ≡ (a -ℤ x) -ℤ (c -ℤ x)
-differ a c x =
-    let (p, p′, e) = difference a in
-    let (r, r′, f) = difference c in
-    let (k, k′, g) = difference x in
-    rw (e, f, g, sub-differences p p′ r r′, sub-differences p p′ k k′, sub-differences r r′ k k′, sub-differences (p + k′) (p′ + k) (r + k′) (r′ + k))
-    (same-difference (p + r′) (p′ + r) (p + k′ + (r′ + k)) (p′ + k + (r + k′)) (omega arith))
-
 -- ---- all corners on one side of the point
 
--- r, p and q times the three sides add up to 0; so where no side is below 0 each is 0, and the area with them
+-- r, p and q times the three sides add up to 0; so where none of them is below 0 each is 0
 level : (p q r a b c y : ℕ) → 0 < p → 0 < q → 0 < r → p * y + q * a ≤ p * b + q * y → q * y + r * b ≤ q * c + r * y → r * y + p * c ≤ r * a + p * y
-    → (p * b + r * c + (q * c + r * a) ≡ p * c + r * b + (q * a + r * c))
+    → (p * b + q * y ≡ p * y + q * a) × (q * c + r * y ≡ q * y + r * b) × (r * a + p * y ≡ r * y + p * c)
 level p q r a b c y hp hq hr hu hv hw =
     let su = mul-le-mul-left {m = p * y + q * a} {n = p * b + q * y} r hu in
     let sv = mul-le-mul-left {m = q * y + r * b} {n = q * c + r * y} p hv in
     let sw = mul-le-mul-left {m = r * y + p * c} {n = r * a + p * y} q hw in
-    let u : p * y + q * a ≡ p * b + q * y = eq-of-mul-eq-mul-left r hr _ _ (omega (arith, su, sv, sw)) in
-    let v : q * y + r * b ≡ q * c + r * y = eq-of-mul-eq-mul-left p hp _ _ (omega (arith, su, sv, sw)) in
-    let w : r * y + p * c ≡ r * a + p * y = eq-of-mul-eq-mul-left q hq _ _ (omega (arith, su, sv, sw)) in
-    omega (arith, u, v, w)
+    (eq-of-mul-eq-mul-left r hr _ _ (omega (arith, su, sv, sw)), eq-of-mul-eq-mul-left p hp _ _ (omega (arith, su, sv, sw)), eq-of-mul-eq-mul-left q hq _ _ (omega (arith, su, sv, sw)))
 
 at-least-0 : (a b : ℕ) → leZ (pos 0) (subℕ a b) ≡ true → b ≤ a
 at-least-0 a b h = omega (arith, leb-true (0 + b) (a + 0) (sym (le-differences 0 0 a b) ∙ h))
@@ -105,15 +95,8 @@ module _ (p q r a b c y : ℕ) (hp : 0 < p) (hq : 0 < q) (hr : 0 < r) where
   edge : (n m k l : ℕ) → spanned (to n m) (to k l) ≡ subℕ (n * l + k * y) (n * y + k * m)
   edge n m k l = spanned-difference n 0 m y k 0 l y ∙ same-difference (plus n 0 m y k 0 l y) (minus n 0 m y k 0 l y) (n * l + k * y) (n * y + k * m) (omega arith)
 
-  between : (n m : ℕ) → less (to n m) (to r c) ≡ record { right = subℕ n r; up = subℕ m c }
-  between n m =
-      let across = sub-differences n 0 r 0 ∙ same-difference (n + 0) (0 + r) n r (omega arith) in
-      let along = sub-differences m y c y ∙ same-difference (m + y) (y + c) m c (omega arith) in
-      λ i. record { right = across i; up = along i }
-
   -- the three sides are at least 0, or at most 0
-  lie-level : oneSided (spanned (to p a) (to q b)) (spanned (to q b) (to r c)) (spanned (to r c) (to p a)) ≡ true
-      → p * b + r * c + (q * c + r * a) ≡ p * c + r * b + (q * a + r * c)
+  lie-level : beside (to p a) (to q b) (to r c) ≡ true → (p * b + q * y ≡ p * y + q * a) × (q * c + r * y ≡ q * y + r * b) × (r * a + p * y ≡ r * y + p * c)
   lie-level h = go (or-cases _ _ (sym (λ i. oneSided (edge p a q b i) (edge q b r c i) (edge r c p a i)) ∙ h))
     where
       u : ℤ
@@ -126,7 +109,7 @@ module _ (p q r a b c y : ℕ) (hp : 0 < p) (hq : 0 < q) (hr : 0 < r) where
       w = subℕ (r * a + p * y) (r * y + p * c)
 
       go : ((leZ (pos 0) u && (leZ (pos 0) v && leZ (pos 0) w)) ≡ true) ⊎ ((leZ u (pos 0) && (leZ v (pos 0) && leZ w (pos 0))) ≡ true)
-          → p * b + r * c + (q * c + r * a) ≡ p * c + r * b + (q * a + r * c)
+          → (p * b + q * y ≡ p * y + q * a) × (q * c + r * y ≡ q * y + r * b) × (r * a + p * y ≡ r * y + p * c)
       go (inl h) =
           let hu = at-least-0 (p * b + q * y) (p * y + q * a) (and-left (leZ (pos 0) u) _ h) in
           let hv = at-least-0 (q * c + r * y) (q * y + r * b) (second (leZ (pos 0) u) (leZ (pos 0) v) _ h) in
@@ -136,27 +119,26 @@ module _ (p q r a b c y : ℕ) (hp : 0 < p) (hq : 0 < q) (hr : 0 < r) where
           let hu = at-most-0 (p * b + q * y) (p * y + q * a) (and-left (leZ u (pos 0)) _ h) in
           let hv = at-most-0 (q * c + r * y) (q * y + r * b) (second (leZ u (pos 0)) (leZ v (pos 0)) _ h) in
           let hw = at-most-0 (r * a + p * y) (r * y + p * c) (third (leZ u (pos 0)) (leZ v (pos 0)) _ h) in
-          omega (arith, level q p r b a c y hq hp hr (omega (arith, hu)) (omega (arith, hw)) (omega (arith, hv)))
+          let e = level q p r b a c y hq hp hr (omega (arith, hu)) (omega (arith, hw)) (omega (arith, hv)) in
+          (omega (arith, e .0), omega (arith, e .2), omega (arith, e .1))
 
-  flat : oneSided (spanned (to p a) (to q b)) (spanned (to q b) (to r c)) (spanned (to r c) (to p a)) ≡ true
-      → spanned (less (to p a) (to r c)) (less (to q b) (to r c)) ≡ pos 0
-  flat h =
-      ap₂ spanned (between p a) (between q b) ∙ spanned-difference p r a c q r b c
-      ∙ is-pos (plus p r a c q r b c) (minus p r a c q r b c) 0 (omega (arith, lie-level h))
+  all-0 : beside (to p a) (to q b) (to r c) ≡ true → total (to p a) (to q b) (to r c) ≡ pos 0
+  all-0 h =
+      let (u, v, w) = lie-level h in
+      let first = edge p a q b ∙ is-pos (p * b + q * y) (p * y + q * a) 0 (omega (arith, u)) in
+      let second = edge q b r c ∙ is-pos (q * c + r * y) (q * y + r * b) 0 (omega (arith, v)) in
+      let third = edge r c p a ∙ is-pos (r * a + p * y) (r * y + p * c) 0 (omega (arith, w)) in
+      λ i. first i +ℤ second i +ℤ third i
 
 -- an arrow has a part to the right
 Ahead : Arrow → Type 0
 Ahead a = (n : ℕ) × (a .right ≡ pos (suc n))
 
--- the point is on no edge's wrong side
-abbrev beside : Arrow → Arrow → Arrow → Bool
-beside a b c = oneSided (spanned a b) (spanned b c) (spanned c a)
-
 -- such an arrow, its way up held against a number that others share
 placed : (a : Arrow) (n m m′ k y : ℕ) → a .right ≡ pos (suc n) → a .up ≡ subℕ m m′ → m + y ≡ k + m′ → a ≡ record { right = subℕ (suc n) 0; up = subℕ k y }
 placed a n m m′ k y e f g = λ d. record { right = (e ∙ sym (is-pos (suc n) 0 (suc n) (omega arith))) d; up = (f ∙ same-difference m m′ k y g) d }
 
-all-ahead : (a b c : Arrow) → Ahead a → Ahead b → Ahead c → beside a b c ≡ true → spanned (less a c) (less b c) ≡ pos 0
+all-ahead : (a b c : Arrow) → Ahead a → Ahead b → Ahead c → beside a b c ≡ true → total a b c ≡ pos 0
 unfolding Ahead
 all-ahead a b c (p, e) (q, f) (r, g) h =
     let (A, A′, i) = difference (a .up) in
@@ -166,19 +148,19 @@ all-ahead a b c (p, e) (q, f) (r, g) h =
     let a-is = placed a p A A′ (A + B′ + C′) y e i (omega arith) in
     let b-is = placed b q B B′ (B + A′ + C′) y f j (omega arith) in
     let c-is = placed c r C C′ (C + A′ + B′) y g k (omega arith) in
-    (λ d. spanned (less (a-is d) (c-is d)) (less (b-is d) (c-is d)))
-    ∙ flat (suc p) (suc q) (suc r) (A + B′ + C′) (B + A′ + C′) (C + A′ + B′) y (omega arith) (omega arith) (omega arith) (sym (λ d. beside (a-is d) (b-is d) (c-is d)) ∙ h)
+    (λ d. total (a-is d) (b-is d) (c-is d))
+    ∙ all-0 (suc p) (suc q) (suc r) (A + B′ + C′) (B + A′ + C′) (C + A′ + B′) y (omega arith) (omega arith) (omega arith) (sym (λ d. beside (a-is d) (b-is d) (c-is d)) ∙ h)
 
 -- and so, after quarter turns, in each direction
 turns : ℕ → Arrow → Arrow
 turns zero a = a
 turns (suc n) a = turns n (turn a)
 
-all-beyond : (n : ℕ) (a b c : Arrow) → Ahead (turns n a) → Ahead (turns n b) → Ahead (turns n c) → beside a b c ≡ true → spanned (less a c) (less b c) ≡ pos 0
+all-beyond : (n : ℕ) (a b c : Arrow) → Ahead (turns n a) → Ahead (turns n b) → Ahead (turns n c) → beside a b c ≡ true → total a b c ≡ pos 0
 unfolding turns
 all-beyond zero a b c ha hb hc h = all-ahead a b c ha hb hc h
 all-beyond (suc n) a b c ha hb hc h =
-    sym (ap₂ spanned (less-turned a c) (less-turned b c) ∙ turned (less a c) (less b c))
+    sym (λ i. turned a b i +ℤ turned b c i +ℤ turned c a i)
     ∙ all-beyond n (turn a) (turn b) (turn c) ha hb hc ((λ i. oneSided (turned a b i) (turned b c i) (turned c a i)) ∙ h)
 
 -- ---- the box
@@ -218,11 +200,8 @@ module _ (t : TriangleShape) (x y : ℤ) (right : triangleRight t ≡ true)
   abbrev c : Arrow
   c = arrow x y (t .third)
 
-  area : twiceArea t ≡ spanned (less a c) (less b c)
-  area = λ i. differ (t .first .x) (t .third .x) x i *ℤ differ (t .second .y) (t .third .y) y i -ℤ differ (t .second .x) (t .third .x) x i *ℤ differ (t .first .y) (t .third .y) y i
-
   none-beyond : (n : ℕ) → Ahead (turns n a) → Ahead (turns n b) → Ahead (turns n c) → ⊥
-  none-beyond n ha hb hc = false-true (sym (not-flat t right) ∙ ap (λ (z : ℤ). eqZ z (pos 0)) (area ∙ all-beyond n a b c ha hb hc h))
+  none-beyond n ha hb hc = false-true (sym (not-flat t right) ∙ ap (λ (z : ℤ). eqZ z (pos 0)) (sym (sides-add t x y) ∙ all-beyond n a b c ha hb hc h))
 
   pub columns-around : within (around (t .first .x) (t .second .x) (t .third .x)) x ≡ true
   unfolding Ahead turns
