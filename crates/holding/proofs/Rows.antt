@@ -42,7 +42,9 @@ module _ (t : List ℤ) (first : ℕ) where
   no-more row l = subst (λ (n : ℕ). length (solidsIn t first n) ≤ length (primitivesBefore t n)) (omega arith) (go (row - first))
     where
       go : (d : ℕ) → length (solidsIn t first (first + d)) ≤ length (primitivesBefore t (first + d))
-      go zero = subst (λ (n : ℕ). length (solidsIn t first n) ≤ length (primitivesBefore t n)) (omega arith) (subst (λ (ps : List Primitive). length ps ≤ length (primitivesBefore t first)) (sym none-yet) (omega arith))
+      go zero =
+          let here : first ≡ first + 0 = omega arith in
+          subst (λ (n : ℕ). length (solidsIn t first n) ≤ length (primitivesBefore t n)) here (omega (arith, ap length none-yet))
       go (suc d) =
           let next : first + d + 1 ≡ first + suc d = omega arith in
           let these = ap length (sym (one-more (first + d) (omega arith))) ∙ length-append (solidsIn t first (first + d)) (solids (first + d)) in

@@ -28,13 +28,13 @@ module _ {v o : ℤ} (f : SFits w32 v) (h : within columns v ≡ true) (g : SFit
 
 -- what is known at the start: each coordinate fits, and is in range
 module _ (s : tie.Start) where
-  record Known : Type 0 where
+  record Fits : Type 0 where
     ax : SFits w32 (s .args .a .x)
     ay : SFits w32 (s .args .a .y)
     bx : SFits w32 (s .args .b .x)
     by : SFits w32 (s .args .b .y)
 
-  fits : Known
+  fits : Fits
   fits = record { ax = search needs; ay = search needs; bx = search needs; by = search needs }
 
   a-x : within columns (s .args .a .x) ≡ true
