@@ -36,6 +36,20 @@ int64_t any_aim(const struct table *table, int axis)
     return near_bounds(box.lo[axis], box.hi[axis]);
 }
 
+/* Two aims; or, each at its box or just past it, two codes with some primitive between them. */
+void any_two_aims(const struct table *table, int64_t *one, int64_t *other)
+{
+    const int32_t *row = some_primitive(table);
+    *one = any_aim(table, Y);
+    *other = any_aim(table, Y);
+    if (row != NULL && one_in(2)) {
+        struct box box = box_of(row);
+        int is_upward = one_in(2);
+        *(is_upward ? one : other) = box.lo[Y] - between(0, 2);
+        *(is_upward ? other : one) = box.hi[Y] + between(0, 2);
+    }
+}
+
 static int64_t magnitude(int64_t value)
 {
     return value < 0 ? -value : value;
@@ -66,10 +80,10 @@ static int in_round(const int32_t *row, int64_t dx, int64_t dy)
     return ry * ry * dx * dx + rx * rx * dy * dy <= rx * rx * ry * ry;
 }
 
-/* Moves the spot to the drum's rim, or to just outside it. */
-static void to_rim(const int32_t *row, int64_t spot[AXES])
+/* The greatest distance in codes from the drum's centre that is inside, so many columns from it. */
+static int64_t rim_height(const int32_t *row, int64_t dx)
 {
-    int64_t dx = between(-row[RADIUS + X], row[RADIUS + X]), inside = 0, outside = (int64_t)row[RADIUS + Y] + 1;
+    int64_t inside = 0, outside = (int64_t)row[RADIUS + Y] + 1;
     while (outside - inside > 1) {
         int64_t middle = (inside + outside) / 2;
         if (in_round(row, dx, middle))
@@ -77,7 +91,13 @@ static void to_rim(const int32_t *row, int64_t spot[AXES])
         else
             outside = middle;
     }
-    int64_t dy = inside + (one_in(2) ? 1 : 0);
+    return inside;
+}
+
+/* Moves the spot to the drum's rim, or to just outside it. */
+static void to_rim(const int32_t *row, int64_t spot[AXES])
+{
+    int64_t dx = between(-row[RADIUS + X], row[RADIUS + X]), dy = rim_height(row, dx) + (one_in(2) ? 1 : 0);
     spot[X] = row[CENTRE + X] + dx;
     spot[Y] = row[CENTRE + Y] + (one_in(2) ? dy : -dy);
 }
@@ -133,14 +153,49 @@ static void to_edge(const int32_t *row, int64_t spot[AXES])
     spot[moved] += between(-1, 1);
 }
 
-/* In this column, a code at or beside the line of a triangle's edge; where none is to be had, one as on any axis. */
-int64_t any_code_at(const struct table *table, int64_t column)
+static int has_column(const int32_t *row, int64_t column)
+{
+    struct box box = box_of(row);
+    return box.lo[X] <= column && column <= box.hi[X];
+}
+
+/* Some primitive row, one that has this column if a few turns find it; NULL where none is to be had. */
+static const int32_t *some_primitive_in(const struct table *table, int64_t column)
 {
     const int32_t *row = some_primitive(table);
+    for (int turn = 0; row != NULL && !has_column(row, column) && turn < 4; turn++)
+        row = some_primitive(table);
+    return row;
+}
+
+/* Where the wedge's plane passes; between two codes, the lower. It has a slope over the codes. */
+static int64_t plane_code(const int32_t *row, int64_t column, int64_t number)
+{
+    int64_t rest = row[LIMIT] - row[SLOPE + X] * in_range(X, column) - row[SLOPE + Z] * in_range(Z, number);
+    return floor_divided(rest, row[SLOPE + Y]);
+}
+
+static int64_t rim_code(const int32_t *row, int64_t column)
+{
+    int64_t radius = row[RADIUS + X], dx = clamped(column - row[CENTRE + X], -radius, radius), dy = rim_height(row, dx);
+    return row[CENTRE + Y] + (one_in(2) ? dy : -dy);
+}
+
+/* In this column and frame, a code at or beside some primitive's plane, rim or line of an edge; or one about its box's bounds. */
+int64_t any_code_at(const struct table *table, int64_t column, int64_t number)
+{
+    const int32_t *row = some_primitive_in(table, column);
     int corner = (int)below(CORNERS);
-    if (row == NULL || !has_edges(row) || edge_run(row, corner, X) == 0)
-        return any_aim(table, Y);
-    return along_edge(row, corner, Y, column - row[CORNER(corner, X)], edge_run(row, corner, X)) + between(-1, 1);
+    if (row == NULL)
+        return any_coordinate(Y);
+    if (row[KIND] == WEDGE && row[SLOPE + Y] != 0 && one_in(2))
+        return plane_code(row, column, number) + between(-1, 1);
+    if (has_round_rim(row))
+        return rim_code(row, column) + between(-1, 1);
+    if (has_edges(row) && edge_run(row, corner, X) != 0)
+        return along_edge(row, corner, Y, column - row[CORNER(corner, X)], edge_run(row, corner, X)) + between(-1, 1);
+    struct box box = box_of(row);
+    return near_bounds(box.lo[Y], box.hi[Y]);
 }
 
 /* A spot by one primitive: a corner, an edge, a face, one past them, or somewhere in between. */

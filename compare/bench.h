@@ -40,7 +40,7 @@ int32_t add_operation(struct table *table, int32_t operation, int32_t left, int3
 
 /* bench_frames.c: frames to search, and tables of many rows with their texts. */
 enum { FEW = 0, MANY = 1, EYE = 8, ANY_ZONE = MANY | EYE }; /* a zone's bits, apart from a frame's */
-enum { CLEAR = 0, INSIDE = 2, TOGGLING = 4 };
+enum { CLEAR = 0, INSIDE = 2, TOGGLING = 4, QUIET = 16, QUIET_INSIDE = QUIET | INSIDE };
 enum { MIXED, TRIANGLES };
 build build_frame, build_screen, build_wide_screen, build_narrow_screen, build_text;
 

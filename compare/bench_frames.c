@@ -75,21 +75,31 @@ static void put_eye(struct table *t)
     }
 }
 
-/* A code for each sample: quiet with a pulse now and then, noise within the zone, or up and down. */
-static int16_t any_code(int manner, size_t k)
+/* Within two codes of the code before, and never far from the middle. */
+static int16_t wandered(int16_t before, int64_t middle)
+{
+    return (int16_t)clamped(before + between(-2, 2), middle - 200, middle + 200);
+}
+
+/* A code for each sample: noise with a pulse now and then, noise within the zone, a slow wander out of it or within it, or up
+   and down. */
+static int16_t any_code(int manner, size_t k, int16_t before)
 {
     switch (manner) {
     case CLEAR: return (int16_t)(k % 1000 / 6 == 80 ? between(9500, 10500) : between(-20, 20));
     case INSIDE: return (int16_t)between(9600, 10400);
+    case QUIET: return wandered(before, 0);
+    case QUIET_INSIDE: return wandered(before, 10000);
     default: return (int16_t)(k % 2 == 0 ? 30000 : -30000);
     }
 }
 
 static void put_codes(struct load *load, int manner)
 {
+    int16_t before = 0;
     start_case(50, (uint64_t)manner);
     for (size_t k = 0; k < load->frames * load->samples; k++)
-        load->code[k] = any_code(manner, k);
+        before = load->code[k] = any_code(manner, k, before);
     load->work = (double)(load->frames * load->samples);
 }
 

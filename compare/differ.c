@@ -5,8 +5,11 @@
 #include "differ.h"
 
 /* From so many cases on, every answer and refusal of every call, all that a triple can tell and all that can be met of
-   triangles must have been seen. */
+   triangles and of edges must have been seen. */
 #define MANY_CASES 5000
+
+/* Samples times words of the list: what plain can bear of one search. */
+#define MOST_LIST_WORK 20000000
 
 static const struct lampholly_window full = {FULL_RANGE};
 
@@ -27,7 +30,7 @@ static void ask_tree(void)
         point.point = any_point(&lent_zone, full);
         ask(point);
     }
-    any_frame(&frame, &lent_zone, full);
+    any_frame(&frame, &lent_zone, full, 0);
     ask(search);
 }
 
@@ -69,6 +72,12 @@ static void any_list(struct lampholly_window window)
         damage_list(&list);
 }
 
+/* Plain goes through the whole list with each sample, and with each frame that is asked about alone. */
+static int takes_long(size_t samples, size_t frames)
+{
+    return (samples + (frames <= MOST_FRAMES ? frames : 0)) * list.words > MOST_LIST_WORK;
+}
+
 static void ask_list(struct lampholly_window window)
 {
     const struct table *table = one_in(3) ? &lent_zone : &zone;
@@ -81,21 +90,21 @@ static void ask_list(struct lampholly_window window)
     }
     for (int turn = 0; turn < 2; turn++) {
         do
-            any_frame(&frame, &zone, window_of(&list));
-        while (frame.samples > 100 && list.words > 2000); /* a sample goes through the whole list */
+            any_frame(&frame, &zone, window_of(&list), list.words);
+        while (takes_long(frame.samples, 0));
         ask(search);
     }
 }
 
-/* By the list that the case has; a long one takes its time with each sample, and with each frame alone. */
+/* By the list that the case has. */
 static void ask_screens(void)
 {
     struct question search = {.call = LIST_SEARCH_FRAMES, .list = &list, .screen = &screen};
     search.table = one_in(3) ? &lent_zone : &zone;
     for (int turn = 0; turn < 2; turn++) {
         do
-            any_screen(&screen, &zone, window_of(&list));
-        while (screen.samples + screen.frames > 100 && list.words > 2000);
+            any_screen(&screen, &zone, window_of(&list), list.words);
+        while (takes_long(screen.samples, screen.frames));
         size_t frames = screen.frames <= MOST_FRAMES + 1 ? screen.frames : 1; /* for a huge number any room will do */
         search.room = any_room(TRIPLE_WORDS * frames, TRIPLES_ROOM);
         ask(search);

@@ -1,5 +1,28 @@
-/* Random frames: quiet, ramping, toggling, wandering and noisy codes about the edges of a zone and a window. */
+/* Random frames: codes that pulse, ramp, toggle, wander, graze or swing about the edges of a zone and a window. */
 #include "inputs.h"
+
+/* Plain asks for every code that a column holds, going by rows and a list's words: so much of that can be borne, seldom more. */
+#define WORK 20000
+#define STEEP_WORK 4000000
+#define STEEP_SELDOM 40
+
+/* From one end of the codes to the other; and what is no short edge. */
+#define SWING (GREATEST_CODE - LEAST_CODE)
+#define LONG_EDGE 60
+
+/* An aim takes its time: from AIMING on, later samples wander. */
+enum { PULSING, RAMPING, TOGGLING, WANDERING, NOISY, AIMING, GRAZING, SWINGING };
+#define AIMED_SAMPLES 4096
+
+/* What a frame keeps to, sample by sample. Long edges are seldom, so that one may lie anywhere in it. */
+struct course {
+    unsigned manner, long_seldom;
+    const struct table *table;
+    int64_t first, number, one, other, step;
+};
+
+/* How many codes the edges of this frame, or of all frames of this screen, may still hold. */
+static int64_t codes_left;
 
 static size_t any_length(void)
 {
@@ -15,22 +38,56 @@ static size_t any_length(void)
     }
 }
 
-/* A code for each sample, in one of several manners; the holder keeps it to 16 bits. */
-static void put_codes(int16_t *code, size_t samples, int64_t first, const struct table *table)
+/* For one frame, or for all of a screen, to be searched by a list of so many words, or by the tree. */
+void start_edges(const struct table *table, size_t list_words)
 {
-    unsigned manner = (unsigned)below(6);
-    int64_t one = any_aim(table, Y), other = any_aim(table, Y), at = one;
-    int64_t step = between(-3, 3);
+    size_t work = one_in(STEEP_SELDOM) ? STEEP_WORK : WORK;
+    codes_left = clamped((int64_t)(work / (1 + rows_in(table->words) + list_words)), 0, 2 * SWING);
+}
+
+/* Stays, leaves by a short edge, or goes to a boundary in this column or the next: so columns begin and end at boundaries. */
+static int64_t grazing_code(const struct course *course, int64_t column, int64_t before)
+{
+    switch (below(4)) {
+    case 0: return before;
+    case 1: return before + between(-30, 30);
+    default: return any_code_at(course->table, column + between(0, 1), course->number);
+    }
+}
+
+/* What comes after the code before; for sample 0, that is `one`. */
+static int64_t wanted_code(const struct course *course, size_t k, int64_t before)
+{
+    int64_t column = course->first + (int64_t)k;
+    switch (k < AIMED_SAMPLES || course->manner < AIMING ? course->manner : WANDERING) {
+    case PULSING: return one_in(20) ? course->other : course->one;
+    case RAMPING: return before + course->step;
+    case TOGGLING: return k % 2 == 0 ? course->one : course->other;
+    case WANDERING: return before + between(-2, 2);
+    case NOISY: return course->one + between(-1, 1);
+    case AIMING: return any_code_at(course->table, column, course->number);
+    case GRAZING: return grazing_code(course, column, before);
+    default: return ONE_OF(LEAST_CODE, GREATEST_CODE, course->one, course->other);
+    }
+}
+
+/* The wanted code; or one beside the code before, where the edge holds more than is left or is a long one out of its turn. */
+static int64_t borne_code(const struct course *course, int64_t wanted, int64_t before)
+{
+    int64_t held = wanted < before ? before - wanted : wanted - before;
+    if (held > codes_left || (held > LONG_EDGE && !one_in(course->long_seldom)))
+        return in_range(Y, before + between(-2, 2));
+    codes_left -= held;
+    return wanted;
+}
+
+static void put_codes(int16_t *code, size_t samples, const struct course *course)
+{
+    int64_t at = in_range(Y, course->one);
     for (size_t k = 0; k < samples; k++) {
-        switch (manner) {
-        case 0: at = one_in(20) ? other : one; break;
-        case 1: at += step; break;
-        case 2: at = k % 2 == 0 ? one : other; break;
-        case 3: at += between(-2, 2); break;
-        case 4: at = k < 4096 ? any_code_at(table, first + (int64_t)k) : at + between(-2, 2); break;
-        default: at = one + between(-1, 1); break;
-        }
-        code[k] = (int16_t)in_range(Y, at);
+        int64_t wanted = in_range(Y, wanted_code(course, k, at));
+        at = k == 0 ? wanted : borne_code(course, wanted, at);
+        code[k] = (int16_t)at;
     }
 }
 
@@ -40,19 +97,25 @@ static void keep_codes(int16_t *code, size_t samples, struct lampholly_window wi
         code[k] = (int16_t)clamped(code[k], window.ylo, window.yhi);
 }
 
-/* One sample leaves the window by its code: the first, the last, or one between. */
+/* One sample leaves the window by its code, where there is one out of it: the first, the last, or one between. */
 static void breach(int16_t *code, size_t samples, struct lampholly_window window)
 {
     size_t last = samples - 1;
     size_t at = (size_t)ONE_OF(0, (int64_t)last, (int64_t)last / 2, (int64_t)below(last + 1));
     int64_t out = one_in(2) ? (int64_t)window.ylo - 1 : (int64_t)window.yhi + 1;
-    code[at] = (int16_t)in_range(Y, out);
+    if (is_coordinate(Y, out))
+        code[at] = (int16_t)out;
 }
 
-/* The codes of a frame, mostly within the window. */
-void any_codes(int16_t *code, size_t samples, int64_t first, const struct table *table, struct lampholly_window window)
+/* The codes of a frame, mostly within the window; start_edges comes before. */
+void any_codes(int16_t *code, size_t samples, int64_t first, int64_t number,
+               const struct table *table, struct lampholly_window window)
 {
-    put_codes(code, samples, first, table);
+    struct course course = {.long_seldom = 1 + (unsigned)samples / 16, .table = table, .first = first, .number = number};
+    course.manner = codes_left > SWING && one_in(2) ? SWINGING : one_in(3) ? GRAZING : (unsigned)below(GRAZING);
+    course.step = between(-3, 3);
+    any_two_aims(table, &course.one, &course.other);
+    put_codes(code, samples, &course);
     if (!one_in(8))
         keep_codes(code, samples, window);
     if (samples > 0 && one_in(5))
@@ -87,12 +150,13 @@ int64_t any_number(const struct table *table, struct lampholly_window window)
     return clamped(number, INT32_MIN, INT32_MAX);
 }
 
-void any_frame(struct frame *frame, const struct table *table, struct lampholly_window window)
+void any_frame(struct frame *frame, const struct table *table, struct lampholly_window window, size_t list_words)
 {
     frame->samples = any_length();
     frame->first = (int32_t)any_first(frame->samples, table, window);
     frame->number = (int32_t)any_number(table, window);
-    any_codes(frame->code, frame->samples, frame->first, table, window);
+    start_edges(table, list_words);
+    any_codes(frame->code, frame->samples, frame->first, frame->number, table, window);
 }
 
 /* One code in all columns, or in all but the last, at the middle of the zone's first box. */

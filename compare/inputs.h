@@ -85,13 +85,16 @@ struct lampholly_window any_window(const struct table *table);
 struct lampholly_window window_of(const struct list *list);
 struct point any_point(const struct table *table, struct lampholly_window window);
 int64_t any_aim(const struct table *table, int axis);
-int64_t any_code_at(const struct table *table, int64_t column);
+void any_two_aims(const struct table *table, int64_t *one, int64_t *other);
+int64_t any_code_at(const struct table *table, int64_t column, int64_t number);
 int64_t any_first(size_t samples, const struct table *table, struct lampholly_window window);
 int64_t any_number(const struct table *table, struct lampholly_window window);
-void any_codes(int16_t *code, size_t samples, int64_t first, const struct table *table, struct lampholly_window window);
-void any_frame(struct frame *frame, const struct table *table, struct lampholly_window window);
+void start_edges(const struct table *table, size_t list_words);
+void any_codes(int16_t *code, size_t samples, int64_t first, int64_t number,
+               const struct table *table, struct lampholly_window window);
+void any_frame(struct frame *frame, const struct table *table, struct lampholly_window window, size_t list_words);
 void level_frame(struct frame *frame, const struct table *table);
-void any_screen(struct screen *screen, const struct table *table, struct lampholly_window window);
+void any_screen(struct screen *screen, const struct table *table, struct lampholly_window window, size_t list_words);
 void repeat_frame(struct screen *screen, const struct frame *frame);
 size_t any_room(size_t needed, size_t most);
 

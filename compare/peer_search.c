@@ -1,4 +1,4 @@
-/* Peers: searches that evaluate every sample on its own. */
+/* Peers: searches that evaluate every sample on its own, by its own code only. */
 #include "peers.h"
 
 static int in_box(const struct peer_box *box, int64_t x, int64_t y, int64_t z)
@@ -29,7 +29,7 @@ static int in_primitive(const struct peer_zone *zone, int32_t number, int64_t x,
     return row[KIND] == BOX || row[SLOPE + X] * x + row[SLOPE + Y] * y + row[SLOPE + Z] * z <= row[LIMIT];
 }
 
-static struct lampholly_answer check_frame(size_t samples, int32_t first, int32_t frame)
+struct lampholly_answer peer_check_frame(size_t samples, int32_t first, int32_t frame)
 {
     int64_t last = (int64_t)first + (int64_t)samples - 1;
     if (samples == 0 || samples > MOST_SAMPLES)
@@ -41,18 +41,18 @@ static struct lampholly_answer check_frame(size_t samples, int32_t first, int32_
 
 /* The tree. */
 
-static int in_tree(const struct peer_zone *zone, int32_t number, int64_t x, int64_t y, int64_t z)
+int peer_in_tree(const struct peer_zone *zone, int32_t number, int64_t x, int64_t y, int64_t z)
 {
     const struct peer_row *row = &zone->row[number];
     switch (row->kind) {
-    case UNION: return in_tree(zone, row->left, x, y, z) || in_tree(zone, row->right, x, y, z);
-    case INTER: return in_tree(zone, row->left, x, y, z) && in_tree(zone, row->right, x, y, z);
-    case DIFF: return in_tree(zone, row->left, x, y, z) && !in_tree(zone, row->right, x, y, z);
+    case UNION: return peer_in_tree(zone, row->left, x, y, z) || peer_in_tree(zone, row->right, x, y, z);
+    case INTER: return peer_in_tree(zone, row->left, x, y, z) && peer_in_tree(zone, row->right, x, y, z);
+    case DIFF: return peer_in_tree(zone, row->left, x, y, z) && !peer_in_tree(zone, row->right, x, y, z);
     default: return in_primitive(zone, row->left, x, y, z);
     }
 }
 
-static struct lampholly_answer found(uint64_t position, uint64_t samples)
+struct lampholly_answer peer_found(uint64_t position, uint64_t samples)
 {
     struct lampholly_answer hit = {0, position, samples};
     return samples == 0 ? peer_done(0) : hit;
@@ -64,17 +64,17 @@ struct lampholly_answer peer_tree_search(const int32_t *table, size_t words,
     struct peer_zone zone;
     struct lampholly_answer check = peer_open(table, words, &zone);
     if (!check.refusal)
-        check = check_frame(samples, first, frame);
+        check = peer_check_frame(samples, first, frame);
     if (check.refusal)
         return check;
     uint64_t position = 0, inside = 0;
     for (size_t k = 0; k < samples; k++) {
-        if (in_tree(&zone, zone.rows - 1, first + (int64_t)k, codes[k], frame)) {
+        if (peer_in_tree(&zone, zone.rows - 1, first + (int64_t)k, codes[k], frame)) {
             position = inside == 0 ? k : position;
             inside++;
         }
     }
-    return found(position, inside);
+    return peer_found(position, inside);
 }
 
 /* The list. */
@@ -127,8 +127,8 @@ static struct lampholly_answer check_window(const uint64_t *list, const int16_t 
 }
 
 /* Table, 9, 11. */
-static struct lampholly_answer open_with_list(const int32_t *table, size_t words, const uint64_t *list, size_t list_words,
-                                              struct peer_zone *zone)
+struct lampholly_answer peer_open_with_list(const int32_t *table, size_t words, const uint64_t *list, size_t list_words,
+                                            struct peer_zone *zone)
 {
     struct lampholly_answer check = peer_open(table, words, zone);
     if (!check.refusal)
@@ -139,10 +139,10 @@ static struct lampholly_answer open_with_list(const int32_t *table, size_t words
 }
 
 /* 12, 10. */
-static struct lampholly_answer check_samples(const uint64_t *list, const int16_t *codes, size_t samples,
-                                             int32_t first, int32_t frame)
+struct lampholly_answer peer_check_samples(const uint64_t *list, const int16_t *codes, size_t samples,
+                                           int32_t first, int32_t frame)
 {
-    struct lampholly_answer check = check_frame(samples, first, frame);
+    struct lampholly_answer check = peer_check_frame(samples, first, frame);
     return check.refusal ? check : check_window(list, codes, samples, first, frame);
 }
 
@@ -165,11 +165,8 @@ static int in_some_product(const struct peer_zone *zone, const uint64_t *list, i
     return 0;
 }
 
-static int in_list_by_mask(const struct peer_zone *zone, const uint64_t *list, int64_t x, int64_t y, int64_t z)
+int peer_in_products(const uint64_t *list, uint64_t around)
 {
-    uint64_t around = 0;
-    for (int32_t i = 0; i < zone->primitives; i++)
-        around |= (uint64_t)in_primitive(zone, i, x, y, z) << i;
     for (uint64_t k = 0; k < list[LIST_PRODUCTS]; k++) {
         const uint64_t *product = list + list_words(k);
         if ((product[UNCOMPLEMENTED] & ~around) == 0 && (product[COMPLEMENTED] & around) == 0)
@@ -178,13 +175,21 @@ static int in_list_by_mask(const struct peer_zone *zone, const uint64_t *list, i
     return 0;
 }
 
+int peer_in_list(const struct peer_zone *zone, const uint64_t *list, int64_t x, int64_t y, int64_t z)
+{
+    uint64_t around = 0;
+    for (int32_t i = 0; i < zone->primitives; i++)
+        around |= (uint64_t)in_primitive(zone, i, x, y, z) << i;
+    return peer_in_products(list, around);
+}
+
 struct lampholly_answer peer_list_search(const int32_t *table, size_t words, const uint64_t *list, size_t list_words,
                                          const int16_t *codes, size_t samples, int32_t first, int32_t frame)
 {
     struct peer_zone zone;
-    struct lampholly_answer check = open_with_list(table, words, list, list_words, &zone);
+    struct lampholly_answer check = peer_open_with_list(table, words, list, list_words, &zone);
     if (!check.refusal)
-        check = check_samples(list, codes, samples, first, frame);
+        check = peer_check_samples(list, codes, samples, first, frame);
     if (check.refusal)
         return check;
     uint64_t position = 0, inside = 0;
@@ -194,40 +199,40 @@ struct lampholly_answer peer_list_search(const int32_t *table, size_t words, con
             inside++;
         }
     }
-    return found(position, inside);
+    return peer_found(position, inside);
 }
 
 static struct lampholly_answer mask_search(const struct peer_zone *zone, const uint64_t *list,
                                            const int16_t *codes, size_t samples, int32_t first, int32_t frame)
 {
-    struct lampholly_answer check = check_samples(list, codes, samples, first, frame);
+    struct lampholly_answer check = peer_check_samples(list, codes, samples, first, frame);
     if (check.refusal)
         return check;
     uint64_t position = 0, inside = 0;
     for (size_t k = 0; k < samples; k++) {
-        if (in_list_by_mask(zone, list, first + (int64_t)k, codes[k], frame)) {
+        if (peer_in_list(zone, list, first + (int64_t)k, codes[k], frame)) {
             position = inside == 0 ? k : position;
             inside++;
         }
     }
-    return found(position, inside);
+    return peer_found(position, inside);
 }
 
 struct lampholly_answer peer_mask_search(const int32_t *table, size_t words, const uint64_t *list, size_t list_words,
                                          const int16_t *codes, size_t samples, int32_t first, int32_t frame)
 {
     struct peer_zone zone;
-    struct lampholly_answer check = open_with_list(table, words, list, list_words, &zone);
+    struct lampholly_answer check = peer_open_with_list(table, words, list, list_words, &zone);
     return check.refusal ? check : mask_search(&zone, list, codes, samples, first, frame);
 }
 
 /* The zone is opened once, for all frames. */
-struct lampholly_answer peer_mask_screen(const int32_t *table, size_t words, const uint64_t *list, size_t list_words,
-                                         const int16_t *codes, size_t samples, size_t frames,
-                                         int32_t first, int32_t frame, uint32_t *triples, size_t room)
+struct lampholly_answer peer_screen(const int32_t *table, size_t words, const uint64_t *list, size_t list_words,
+                                    const int16_t *codes, size_t samples, size_t frames,
+                                    int32_t first, int32_t frame, uint32_t *triples, size_t room, peer_frame_search *search)
 {
     struct peer_zone zone;
-    struct lampholly_answer check = open_with_list(table, words, list, list_words, &zone);
+    struct lampholly_answer check = peer_open_with_list(table, words, list, list_words, &zone);
     if (!check.refusal && (frames == 0 || frames > MOST_FRAMES || samples % frames != 0))
         check = peer_refused(12, 0);
     if (!check.refusal && room < TRIPLE_WORDS * frames)
@@ -237,7 +242,14 @@ struct lampholly_answer peer_mask_screen(const int32_t *table, size_t words, con
     size_t length = samples / frames;
     for (size_t j = 0; j < frames; j++) {
         int32_t number = frame < INT32_MAX - (int32_t)j ? frame + (int32_t)j : INT32_MAX; /* which is out of range, too */
-        put_triple(triples + TRIPLE_WORDS * j, mask_search(&zone, list, codes + j * length, length, first, number));
+        put_triple(triples + TRIPLE_WORDS * j, search(&zone, list, codes + j * length, length, first, number));
     }
     return peer_done(TRIPLE_WORDS * frames);
+}
+
+struct lampholly_answer peer_mask_screen(const int32_t *table, size_t words, const uint64_t *list, size_t list_words,
+                                         const int16_t *codes, size_t samples, size_t frames,
+                                         int32_t first, int32_t frame, uint32_t *triples, size_t room)
+{
+    return peer_screen(table, words, list, list_words, codes, samples, frames, first, frame, triples, room, mask_search);
 }

@@ -83,7 +83,7 @@ struct lampholly_answer peer_finish(const struct peer_zone *zone, struct lamphol
                                     struct product *products, size_t count, uint64_t *list, size_t room);
 
 /* peer_search.c: every sample evaluated on its own, in the tree, product by product, or by a mask of primitives; by that, a
-   screenful too. */
+   screenful too. They go by the samples' own codes only, which is less than the rules ask for. */
 struct lampholly_answer peer_tree_search(const int32_t *table, size_t words,
                                          const int16_t *codes, size_t samples, int32_t first, int32_t frame);
 struct lampholly_answer peer_list_search(const int32_t *table, size_t words, const uint64_t *list, size_t list_words,
@@ -93,6 +93,31 @@ struct lampholly_answer peer_mask_search(const int32_t *table, size_t words, con
 struct lampholly_answer peer_mask_screen(const int32_t *table, size_t words, const uint64_t *list, size_t list_words,
                                          const int16_t *codes, size_t samples, size_t frames,
                                          int32_t first, int32_t frame, uint32_t *triples, size_t room);
+
+/* peer_search.c, too: what it shares with peer_column.c. A mask, `around`, has a bit for each primitive that a point is in. */
+typedef struct lampholly_answer peer_frame_search(const struct peer_zone *zone, const uint64_t *list,
+                                                  const int16_t *codes, size_t samples, int32_t first, int32_t frame);
+struct lampholly_answer peer_found(uint64_t position, uint64_t samples);
+struct lampholly_answer peer_check_frame(size_t samples, int32_t first, int32_t frame);
+struct lampholly_answer peer_check_samples(const uint64_t *list, const int16_t *codes, size_t samples,
+                                           int32_t first, int32_t frame);
+struct lampholly_answer peer_open_with_list(const int32_t *table, size_t words, const uint64_t *list, size_t list_words,
+                                            struct peer_zone *zone);
+int peer_in_tree(const struct peer_zone *zone, int32_t number, int64_t x, int64_t y, int64_t z);
+int peer_in_products(const uint64_t *list, uint64_t around);
+int peer_in_list(const struct peer_zone *zone, const uint64_t *list, int64_t x, int64_t y, int64_t z);
+struct lampholly_answer peer_screen(const int32_t *table, size_t words, const uint64_t *list, size_t list_words,
+                                    const int16_t *codes, size_t samples, size_t frames,
+                                    int32_t first, int32_t frame, uint32_t *triples, size_t room, peer_frame_search *search);
+
+/* peer_column.c: every column evaluated with all codes that it holds, in the tree or by the list; by that, a screenful too. */
+struct lampholly_answer peer_tree_columns(const int32_t *table, size_t words,
+                                          const int16_t *codes, size_t samples, int32_t first, int32_t frame);
+struct lampholly_answer peer_list_columns(const int32_t *table, size_t words, const uint64_t *list, size_t list_words,
+                                          const int16_t *codes, size_t samples, int32_t first, int32_t frame);
+struct lampholly_answer peer_screen_columns(const int32_t *table, size_t words, const uint64_t *list, size_t list_words,
+                                            const int16_t *codes, size_t samples, size_t frames,
+                                            int32_t first, int32_t frame, uint32_t *triples, size_t room);
 
 /* peer_text.c */
 struct lampholly_answer peer_read_text(const uint8_t *text, size_t bytes, int32_t *table, size_t room);

@@ -112,7 +112,19 @@ struct plain_answer plain_list_point(const int32_t *table, size_t words, const u
     return plain_inside(in_list(&zone, list, point));
 }
 
-/* A frame, after the checks of table and list: 12, 10, then clear or hit. */
+/* A sample is inside when any code that its column holds is. */
+static int sample_in_list(const struct zone *zone, const uint64_t *list,
+                          const int16_t *codes, size_t position, int32_t first, int64_t frame)
+{
+    struct held_codes held = plain_held_codes(codes, position);
+    struct point point = plain_sample(codes, position, first, frame);
+    for (point.at[Y] = held.lowest; point.at[Y] <= held.highest; point.at[Y]++)
+        if (in_list(zone, list, point))
+            return 1;
+    return 0;
+}
+
+/* A frame, after the checks of table and list: 12, 10 by the samples' own codes, then clear or hit. */
 static struct plain_answer search_frame(const struct zone *zone, const uint64_t *list,
                                         const int16_t *codes, size_t samples, int32_t first, int64_t frame)
 {
@@ -124,7 +136,7 @@ static struct plain_answer search_frame(const struct zone *zone, const uint64_t 
             return plain_refused(10, k);
     uint64_t first_inside = 0, inside_samples = 0;
     for (size_t k = 0; k < samples; k++) {
-        if (in_list(zone, list, plain_sample(codes, k, first, frame))) {
+        if (sample_in_list(zone, list, codes, k, first, frame)) {
             if (inside_samples == 0)
                 first_inside = k;
             inside_samples++;

@@ -16,6 +16,11 @@ struct zone {
     const int32_t *primitive[MOST_PRIMITIVES];
 };
 
+/* The codes that a column holds: from the lowest to the highest, both included. */
+struct held_codes {
+    int64_t lowest, highest;
+};
+
 /* plain_table.c */
 struct plain_answer plain_done(uint64_t written);
 struct plain_answer plain_inside(int inside);
@@ -28,5 +33,6 @@ struct zone plain_zone(const int32_t *table, size_t words);
 int plain_in_primitive(const int32_t *row, struct point point);
 struct plain_answer plain_check_frame(size_t samples, int32_t first, int64_t frame);
 struct point plain_sample(const int16_t *codes, size_t position, int32_t first, int64_t frame);
+struct held_codes plain_held_codes(const int16_t *codes, size_t position);
 
 #endif

@@ -92,6 +92,29 @@ struct point plain_sample(const int16_t *codes, size_t position, int32_t first, 
     return point;
 }
 
+/* The column of a sample holds what lies past the code before it, up to its own; that of sample 0 its own code only. */
+struct held_codes plain_held_codes(const int16_t *codes, size_t position)
+{
+    int64_t own = codes[position], before = position == 0 ? own : codes[position - 1];
+    struct held_codes held = {own, own};
+    if (before < own)
+        held.lowest = before + 1;
+    if (own < before)
+        held.highest = before - 1;
+    return held;
+}
+
+/* A sample is inside when any code that its column holds is. */
+static int sample_in_tree(const struct zone *zone, const int16_t *codes, size_t position, int32_t first, int64_t frame)
+{
+    struct held_codes held = plain_held_codes(codes, position);
+    struct point point = plain_sample(codes, position, first, frame);
+    for (point.at[Y] = held.lowest; point.at[Y] <= held.highest; point.at[Y]++)
+        if (in_tree(zone, zone->rows - 1, point))
+            return 1;
+    return 0;
+}
+
 struct plain_answer plain_tree_search(const int32_t *table, size_t words,
                                       const int16_t *codes, size_t samples, int32_t first, int32_t frame)
 {
@@ -104,7 +127,7 @@ struct plain_answer plain_tree_search(const int32_t *table, size_t words,
     struct zone zone = plain_zone(table, words);
     uint64_t first_inside = 0, inside_samples = 0;
     for (size_t k = 0; k < samples; k++) {
-        if (in_tree(&zone, zone.rows - 1, plain_sample(codes, k, first, frame))) {
+        if (sample_in_tree(&zone, codes, k, first, frame)) {
             if (inside_samples == 0)
                 first_inside = k;
             inside_samples++;

@@ -47,16 +47,18 @@ static void miscount(struct screen *screen)
         screen->samples = 0;
 }
 
-void any_screen(struct screen *screen, const struct table *table, struct lampholly_window window)
+/* All its frames together have as much for their edges as one frame. */
+void any_screen(struct screen *screen, const struct table *table, struct lampholly_window window, size_t list_words)
 {
     size_t frames = any_frames(), length = any_length(frames), rest = one_in(12) ? below(frames) : 0;
     screen->frames = frames;
     screen->samples = frames * length + rest;
     screen->first = (int32_t)any_first(length, table, window);
     screen->number = (int32_t)any_start(frames, table, window);
+    start_edges(table, list_words);
     for (size_t j = 0; j < frames; j++)
-        any_codes(screen->code + j * length, length, screen->first, table, window);
-    any_codes(screen->code + frames * length, rest, screen->first, table, window);
+        any_codes(screen->code + j * length, length, screen->first, screen->number + (int64_t)j, table, window);
+    any_codes(screen->code + frames * length, rest, screen->first, screen->number, table, window);
     if (one_in(16))
         miscount(screen);
 }

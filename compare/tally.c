@@ -38,6 +38,21 @@ static const char *const met_name[MET] = {"one way round", "the other way round"
 
 static uint64_t met[MET];
 
+/* What can be met of the codes between two samples, in searches over the tree and over a list. */
+enum { CHANGED_ANSWER, ADDED_HIT, INSIDE_RISING, INSIDE_FALLING, STEEP_FRAME, EDGES };
+enum { BY_TREE, BY_LIST, SEARCHES };
+
+#define STEEP_CODES 30000
+
+static const char *const edge_name[EDGES] = {
+    "answer that own codes would change", "hit that own codes would miss", "sample inside by a rising edge alone",
+    "sample inside by a falling edge alone", "frame with an edge of over 30,000 codes",
+};
+
+static const char *const search_name[SEARCHES] = {"tree search", "list search"};
+
+static uint64_t edges[SEARCHES][EDGES];
+
 static int asks_point(enum call call)
 {
     return call == TREE_POINT || call == LIST_POINT;
@@ -68,7 +83,7 @@ static int is_on_edge(const int32_t *row, struct point point)
         && row[bound_word(TRIANGLE, LO(Z))] <= point.at[Z] && point.at[Z] <= row[bound_word(TRIANGLE, HI(Z))];
 }
 
-/* The point that is inside, or the first such sample. */
+/* The point that is inside, or that of the first inside sample's own code. */
 static struct point hit_of(const struct question *q, struct plain_answer answer)
 {
     if (asks_point(q->call))
@@ -98,6 +113,38 @@ static void tally_table(const struct question *q, struct plain_answer answer)
     }
 }
 
+/* Is sample k inside where the frame begins so many samples before it? With none before it, its own code decides. */
+static int is_sample_inside(const struct question *q, size_t k, size_t before)
+{
+    const struct table *t = q->table;
+    const struct frame *f = q->frame;
+    const int16_t *codes = f->code + k - before;
+    int32_t first = f->first + (int32_t)(k - before);
+    struct plain_answer answer = q->call == TREE_SEARCH
+        ? plain_tree_search(t->word, t->words, codes, 1 + before, first, f->number)
+        : plain_list_search(t->word, t->words, q->list->word, q->list->words, codes, 1 + before, first, f->number);
+    return answer.count > 0 && answer.value + answer.count == 1 + before;
+}
+
+/* A sample whose own code is inside is inside: so own codes miss just those samples that an edge alone brings inside. An edge of
+   one code holds no other than the sample's own. */
+static void tally_edges(const struct question *q, struct plain_answer answer)
+{
+    uint64_t *seen = edges[q->call == TREE_SEARCH ? BY_TREE : BY_LIST], missed = 0;
+    int is_steep = 0;
+    for (size_t k = 1; k < q->frame->samples; k++) {
+        int32_t rise = q->frame->code[k] - q->frame->code[k - 1], height = rise < 0 ? -rise : rise;
+        is_steep |= height > STEEP_CODES;
+        if (height > 1 && answer.count > 0 && !is_sample_inside(q, k, 0) && is_sample_inside(q, k, 1)) {
+            seen[rise > 0 ? INSIDE_RISING : INSIDE_FALLING]++;
+            missed++;
+        }
+    }
+    seen[CHANGED_ANSWER] += missed > 0;
+    seen[ADDED_HIT] += missed > 0 && missed == answer.count;
+    seen[STEEP_FRAME] += is_steep;
+}
+
 void tally(const struct question *question, struct plain_answer answer)
 {
     enum call call = question->call;
@@ -107,6 +154,8 @@ void tally(const struct question *question, struct plain_answer answer)
         refused[call][answer.refusal]++;
     if (question->table != NULL)
         tally_table(question, answer);
+    if (question->frame != NULL && answer.refusal == 0)
+        tally_edges(question, answer);
 }
 
 void tally_triple(const uint32_t *triple)
@@ -157,6 +206,10 @@ void print_tally(uint64_t seed, uint64_t cases)
     }
     print_counts("; triples", told_name, told, TOLD);
     print_counts("; triangles", met_name, met, MET);
+    for (int search = 0; search < SEARCHES; search++) {
+        printf("; ");
+        print_counts(search_name[search], edge_name, edges[search], EDGES);
+    }
     printf("\n");
 }
 
@@ -172,11 +225,13 @@ static int is_each_seen(const char *what, const char *const *name, const uint64_
 }
 
 /* Was every answer and refusal that the rules give a call seen of it, all that a triple can tell, and all that can be met of a
-   triangle? Names what was not. */
+   triangle and of edges? Names what was not. */
 int is_all_seen(void)
 {
     int all = is_each_seen("triple that tells", told_name, told, TOLD);
     all = is_each_seen("triangle", met_name, met, MET) && all;
+    for (int search = 0; search < SEARCHES; search++)
+        all = is_each_seen(search_name[search], edge_name, edges[search], EDGES) && all;
     for (int call = 0; call < CALLS; call++) {
         if (answered[call][0] == 0 || (asks_inside(call) && answered[call][1] == 0)) {
             printf("differ: an answer of %s was never seen\n", call_name[call]);

@@ -15,15 +15,15 @@ enum { TABLE_WORDS = 60, LIST_WORDS = 12, SAMPLES = 8 };
 /* A - B, or C: examples/training/story.zone. */
 static const char text[] = "zone\t5\n"
                            "box\t0\t15\t20\t60\t-9\t0\n"
-                           "box\t10\t13\t20\t60\t-9\t0\n"
+                           "box\t9\t14\t20\t60\t-9\t0\n"
                            "diff\t0\t1\n"
-                           "box\t8\t15\t80\t99\t-9\t0\n"
+                           "box\t8\t15\t-99\t-80\t-9\t0\n"
                            "union\t2\t3\n";
 static int32_t table[TABLE_WORDS];
 static uint64_t one[LIST_WORDS], two[LIST_WORDS];
 
 static const int16_t ring[SAMPLES] = {0, 5, 45, 52, 40, 31, 5, 0};
-static const int16_t spike[SAMPLES] = {0, 5, 5, 90, 5, 5, 5, 0};
+static const int16_t spike[SAMPLES] = {0, -5, -5, -90, -5, -5, -5, 0};
 
 static void show(const char *what, struct lampholly_answer answer)
 {
@@ -52,7 +52,7 @@ static struct lampholly_answer search(const uint64_t *list, const int16_t *sampl
 
 int main(void)
 {
-    struct lampholly_window first = {0, 7, 0, 99, -9, 0}, second = {8, 15, 0, 99, -9, 0};
+    struct lampholly_window first = {0, 7, -99, 99, -9, 0}, second = {8, 15, -99, 99, -9, 0};
 
     lampholly_read_text((const uint8_t *)text, sizeof text - 1, table, TABLE_WORDS);
     lampholly_make_list(table, TABLE_WORDS, first, one, LIST_WORDS);

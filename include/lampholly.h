@@ -31,12 +31,15 @@
    - Every input has an answer; no call has a precondition besides those above.
 
    Threads: calls keep no state, so they may run at the same time unless one writes a buffer that is lent to another.
-   Stack: bytes as measured (no bounds) on tables of 127 rows: check 328; write_text 392; list_search 488; list_point 504;
-   list_search_frames 616; tree_point 4,312; tree_search 4,376; read_text 7,680; make_list 11,296. docs/PERFORMANCE.md says how.
-   Cost: linear in the rows for check, tree_point and write_text; in the bytes for read_text; in samples * rows for tree_search;
-   in rows + list words for list_point; in samples * (rows + list words) for list_search. list_search_frames checks table and
-   list once, then takes for each frame what list_search takes for it. make_list takes rows * rows, and then what the choices
-   take that it has to go through: docs/PERFORMANCE.md has times, and no bound is known.
+   Stack: bytes as measured (no bounds) on tables of 127 rows: check 328; write_text 392; list_point 536; tree_point 568;
+   tree_search 2,440; list_search 2,488; list_search_frames 2,616; read_text 7,680; make_list 11,296. docs/PERFORMANCE.md says
+   how.
+   Cost: linear in the rows for check, tree_point and write_text; in the bytes for read_text; in rows + list words for
+   list_point. A search is linear in the samples. A sample takes rows + list words, at most twice, and as much again for each
+   end of a primitive's codes that its column passes, of which there are two a primitive; where the trace stays clear of the edges
+   of the zone it takes next to nothing, however many rows there are. list_search_frames checks table and list once, then
+   takes for each frame what list_search takes for it. make_list takes rows * rows, and then what the choices take that it has to
+   go through: docs/PERFORMANCE.md has times, and no bound is known.
 
    The table's refusals, in their order; each call that takes a table gives them first
       1  words not a multiple of 12, no row, or over 127 rows      value: words
@@ -61,7 +64,7 @@ extern "C" {
 #endif
 
 /* The header's own: hundreds rise where a program that was right may need a change, ones where something was added. */
-#define LAMPHOLLY_VERSION 202
+#define LAMPHOLLY_VERSION 300
 
 /* The kinds of rows. */
 #define LAMPHOLLY_BOX 0
@@ -121,7 +124,10 @@ struct lampholly_answer lampholly_check(const int32_t *table, size_t words);
      10  a coordinate out of its axis' range     value: first bad axis, 0..2 */
 struct lampholly_answer lampholly_tree_point(const int32_t *table, size_t words, int32_t x, int32_t y, int32_t z);
 
-/* Searches a frame: sample k, counted from 0, is the point (first + k, codes[k], frame).
+/* Searches a frame. Sample k, counted from 0, stands at column first + k. The trace is drawn between the samples: the column of
+   sample k holds every code from codes[k - 1], itself left out unless equal, to codes[k]; that of sample 0 holds codes[0] alone.
+   So after a code of 3 a sample of 7 holds 4, 5, 6, 7, and after 7 one of 3 holds 3, 4, 5, 6. A sample is inside where one of the
+   codes that its column holds is, at that column and in that frame.
    Answers: clear (0, 0, 0), or hit (0, position of the first inside sample, number of inside samples).
    Refusals: the table's; then
      12  no sample or over 65,536               value: 0
@@ -160,11 +166,12 @@ struct lampholly_answer lampholly_make_list(const int32_t *table, size_t words, 
 struct lampholly_answer lampholly_list_point(const int32_t *table, size_t words,
                                              const uint64_t *list, size_t list_words, int32_t x, int32_t y, int32_t z);
 
-/* Searches a frame by the list; samples as in lampholly_tree_search, inside as in lampholly_list_point.
+/* Searches a frame by the list; samples and what their columns hold as in lampholly_tree_search, inside as in
+   lampholly_list_point.
    Answers: clear (0, 0, 0), or hit (0, position of the first inside sample, number of inside samples).
    Refusals: the table's; the list's; then
      12  as in lampholly_tree_search
-     10  a sample is out of the list's window    value: position of the first such sample */
+     10  a sample is out of the list's window    value: position of the first such sample, by its own code */
 struct lampholly_answer lampholly_list_search(const int32_t *table, size_t words,
                                               const uint64_t *list, size_t list_words,
                                               const int16_t *codes, size_t samples, int32_t first, int32_t frame);
@@ -188,7 +195,8 @@ struct lampholly_answer lampholly_write_text(const int32_t *table, size_t words,
 
 /* Searches up to 500 frames of one length by the list, each as lampholly_list_search does. They lie end to end in
    codes[0 .. samples - 1], so that each has samples / frames of them, and all start at column `first`. The first has the number
-   `frame`, each further one a number greater by one. Writes three words a frame into triples[0 .. room - 1]:
+   `frame`, each further one a number greater by one; no frame fills sample 0 of the next. Writes three words a frame into
+   triples[0 .. room - 1]:
       0, 0, 0                   clear
       1, position, count        hit: the first inside sample, counted from 0 in its frame, and how many there are
       100 + number, value, 0    refused, by 12 or 10; the other frames are searched all the same

@@ -1,18 +1,19 @@
 -- The code's tests of a list are the rules' tests; and checks one after the other are one check by all their rules. Assumes nothing.
-use Prim.Native.Nat.{ℕ, suc, _+_, _-_, _*_, _/_, _%_, _^_, _≤_, _<_}
+use Prim.Native.Nat.{ℕ, suc, _+_, _-_, _*_, _/_, _%_, _^_, _≤_}
 use native.Mathlib.Nat.{pow-suc}
 use native.Mathlib.Omega.{arith}
 use mathlib.Core.Bool.{Bool, true, false, not, _&&_, _||_, Bool·not-not}
 use mathlib.Core.List.{List, [], _∷_, _++_}
 use mathlib.Core.Option.{Option}
 use mathlib.Core.Path.{_≡_, refl, sym, ap, ap₂, _∙_}
-use borrow.Author.Tests.{leb-true, leb-false, le-leb, lt-leb, le-ltb, lt-ltb}
+use borrow.Author.Tests.{leb-true, leb-false, le-ltb, lt-ltb}
 use lib.Bits.{bitAnd}
 use lib.Dec.{eqb, leb, ltb, leb·suc-suc}
 use lib.ListN.{length}
 use lib.Pow.{pow-mono}
 use Rattle.ground.specs.Lists.{firstOf}
 use Rattle.ground.proofs.Masks.{one-shifted}
+use Rattle.ground.proofs.Order.{leb-same}
 use Rattle.rules.specs.declared.Checked.{Checked}
 use Rattle.rules.specs.declared.Axis.the-variants.{Column, Code, Frame}
 use Rattle.rules.specs.declared.Product.{Product}
@@ -39,20 +40,6 @@ more-than a b = go (leb b a) refl
     go : (t : Bool) → leb b a ≡ t → ltb a b ≡ not t
     go true e = le-ltb a b (leb-true b a e)
     go false e = lt-ltb a b (omega (arith, leb-false b a e))
-
-leb-same : (a b c d : ℕ) → (a ≤ b → c ≤ d) → (c ≤ d → a ≤ b) → leb a b ≡ leb c d
-leb-same a b c d f g = go (leb a b) refl
-  where
-    go : (t : Bool) → leb a b ≡ t → t ≡ leb c d
-    go true e = sym (le-leb c d (f (leb-true a b e)))
-    go false e = sym (lt-leb c d (turned (leb-false a b e)))
-      where
-        turned : b < a → d < c
-        turned h = by (leb c d) refl
-          where
-            by : (t : Bool) → leb c d ≡ t → d < c
-            by true k = let l = g (leb-true c d k) in absurd (omega (arith, l, h))
-            by false k = leb-false c d k
 
 -- one of two tests fails
 pub either-fails : (a b : Bool) (number value : ℕ) → refuseIf (not a || not b) number value ≡ refuseUnless (a && b) number value

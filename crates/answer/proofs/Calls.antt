@@ -4,8 +4,6 @@ use mathlib.Core.Bool.{Bool, true, false}
 use mathlib.Core.List.{List, [], _∷_}
 use mathlib.Core.Option.{Option, none, some}
 use mathlib.Core.Path.{_≡_, sym, ap, _∙_}
-use borrow.Author.Tests.{eqb-true}
-use lib.Dec.{eqb}
 use lib.IntN.{ℤ}
 use lib.ListN.{length}
 use Rattle.ground.specs.Lists.{firstOf}
@@ -21,16 +19,15 @@ use Rattle.rules.specs.Frame.{frameRefusal, leavesRefusal, sampleInside, firstI
 use Rattle.rules.specs.ListCalls.{acceptRefusal, ListLocated, ListSearched}
 use Rattle.rules.specs.ListFaults.{listRefusal, primitivesRefusal}
 use Rattle.rules.specs.ListInside.{insideList}
-use Rattle.rules.specs.ListWords.{listWindow, primitiveCount}
+use Rattle.rules.specs.ListWords.{listWindow}
 use Rattle.rules.specs.Table.{primitives}
 use Rattle.rules.specs.Told.{Tale, Told, fine, refused, tell, toldLocated, toldSearched}
 use Rattle.rules.specs.TreeCalls.{pointRefusal, pointTale, searchTale}
 use Rattle.rules.specs.Verdict.{tableRefusal}
 use Rattle.laws.proofs.Telling.{told-now, told-later, told-fine}
-use Rattle.laws.proofs.Soundness.{unless-kept}
 use Rattle.frame.specs.declared.Tally.{Tally}
 use Rattle.frame.specs.Tallies.{seen, Tallied}
-use Rattle.answer.specs.Checks.{Accepted}
+use Rattle.says.specs.Checks.{Accepted}
 
 -- ---- table and list together
 
@@ -41,11 +38,6 @@ module _ (t : List ℤ) (list : List ℕ) where
       let a = first-kept (tableRefusal t) (listRefusal list ∷ primitivesRefusal (primitives t) list ∷ []) e in
       let b = first-kept (listRefusal list) (primitivesRefusal (primitives t) list ∷ []) (a .1) in
       record { accepts = e; table = a .0; list-right = b .0; counts = first-kept (primitivesRefusal (primitives t) list) [] (b .1) .0 }
-
-  -- the list has as many primitives as the table
-  pub same-counts : Accepted t list → primitiveCount list ≡ length (primitives t)
-  same-counts A =
-      eqb-true (primitiveCount list) (length (primitives t)) (unless-kept (eqb (primitiveCount list) (length (primitives t))) 11 (length (primitives t)) (A .counts))
 
   -- what a call tells, by the rules that come after these
   module _ (more : List (Option Refusal)) (tale : Tale) where

@@ -1,66 +1,18 @@
 // Asking a list that was accepted: a point of its window, and a frame that lies in it.
-use frame::Tally;
 use rules::Checked;
 use rules::Located;
 use rules::Place;
 use rules::Point;
-use rules::Product;
 use rules::Searched;
 use rules::Window;
-ghost use mathlib.Core.Bool.{true};
+use says::Asked;
 ghost use mathlib.Core.Option.{none};
 ghost use mathlib.Core.Path.{_≡_};
-ghost use lib.ListN.{length};
-ghost use Rattle.rules.specs.Boxes.{holds, everywhere, windowBox};
-ghost use Rattle.rules.specs.Table.{primitives};
-ghost use Rattle.rules.specs.ListInside.{insideList};
-ghost use Rattle.rules.specs.Frame.{frameRefusal, leavesRefusal, sampleInside};
+ghost use Rattle.rules.specs.Boxes.{windowBox};
+ghost use Rattle.rules.specs.Frame.{frameRefusal, leavesRefusal};
 ghost use Rattle.rules.specs.ListCalls.{ListLocated, ListSearched};
 ghost use Rattle.laws.specs.Checking.{checkedBy};
-ghost use Rattle.laws.specs.Sound.{Sound};
-ghost use Rattle.laws.specs.SoundList.{SoundList};
-ghost use Rattle.laws.specs.Held.{held, suits, suitsSome};
-ghost use Rattle.frame.specs.Tallies.{Tallied};
-ghost use Rattle.answer.specs.Checks.{Accepted};
-
-// The primitives that hold a point.
-fn holders(table: &[i32], p: Point) -> u64
-    requires { ⌜ Sound (now table) ⌝ }
-    requires { ⌜ holds everywhere p ≡ true ⌝ }
-    ensures { λ r. ⌜ r ≡ held (primitives (now (table .entry))) p ⌝ }
-{
-    holding::holders(table, 0, table::row_count(table), p)
-}
-
-// All that the product asks for, and none of its cuts.
-fn suits(c: Product, set: u64) -> bool
-    ensures { λ r. ⌜ r ≡ suits set c ⌝ }
-{
-    (c.plain & set == c.plain) & (c.cuts & set == 0)
-}
-
-fn suits_some(list: &[u64], set: u64) -> bool
-    requires { ⌜ SoundList (now list) ⌝ }
-    ensures { λ r. ⌜ r ≡ suitsSome (now (list .entry)) set ⌝ }
-{
-    let count = list[0] as usize;
-    let mut k: usize = 0;
-    while k < count {
-        if suits(layout::product_at(list, k), set) {
-            return true;
-        }
-        k += 1;
-    }
-    false
-}
-
-fn list_inside(table: &[i32], list: &[u64], p: Point) -> bool
-    requires { ⌜ Accepted (now table) (now list) ⌝ }
-    requires { ⌜ holds everywhere p ≡ true ⌝ }
-    ensures { λ r. ⌜ r ≡ insideList (primitives (now (table .entry))) (now (list .entry)) p ⌝ }
-{
-    suits_some(list, holders(table, p))
-}
+ghost use Rattle.says.specs.Checks.{Accepted};
 
 // Table and list are accepted: the window, then the products.
 fn point_in(table: &[i32], list: &[u64], p: Point) -> Located
@@ -71,7 +23,7 @@ fn point_in(table: &[i32], list: &[u64], p: Point) -> Located
     match placed {
         Checked::Refused(refusal) => Located::Refused(refusal),
         Checked::Sound => {
-            if list_inside(table, list, p) {
+            if sweep::inside_at(Asked::List, table, list, p) {
                 Located::Inside
             } else {
                 Located::Outside
@@ -105,22 +57,6 @@ fn check_leaves(w: Window, samples: &[i16], place: Place) -> Checked
     Checked::Sound
 }
 
-// The inside samples of a frame.
-fn scan(table: &[i32], list: &[u64], samples: &[i16], place: Place) -> Tally
-    requires { ⌜ Accepted (now table) (now list) ⌝ }
-    requires { ⌜ frameRefusal (now samples) place ≡ none ⌝ }
-    ensures { λ r. ⌜ Tallied (sampleInside (insideList (primitives (now (table .entry))) (now (list .entry))) (now (samples .entry)) place) (length (now (samples .entry))) r ⌝ }
-{
-    let mut t = Tally { first: 0, count: 0 };
-    let mut k: usize = 0;
-    while k < samples.len() {
-        let hit = list_inside(table, list, frame::point_at(samples, place, k));
-        t = frame::counted(t, k, hit);
-        k += 1;
-    }
-    t
-}
-
 // The frame is right: its samples in the window, then what they hit.
 fn search_in(table: &[i32], list: &[u64], samples: &[i16], place: Place) -> Searched
     requires { ⌜ Accepted (now table) (now list) ⌝ }
@@ -130,7 +66,7 @@ fn search_in(table: &[i32], list: &[u64], samples: &[i16], place: Place) -> Sear
     let placed = check_leaves(layout::window_of(list), samples, place);
     match placed {
         Checked::Refused(refusal) => Searched::Refused(refusal),
-        Checked::Sound => frame::answer(scan(table, list, samples, place)),
+        Checked::Sound => frame::answer(sweep::scan(Asked::List, table, list, samples, place)),
     }
 }
 

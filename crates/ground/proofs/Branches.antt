@@ -1,4 +1,4 @@
--- What a branch tells of `p && q` and `p || q`, of a choice, and of what a test says. Assumes nothing.
+-- What a branch tells of `p && q` and `p || q`, of a choice, and of what a test says; tests that say the same. Assumes nothing.
 use mathlib.Core.Bool.{Bool, true, false, _&&_, _||_}
 use mathlib.Core.Logic.{_⊎_, inl, inr}
 use mathlib.Core.Path.{_≡_, refl, sym, subst}
@@ -34,6 +34,12 @@ and-right false q h = false-true h
 pub or-cases : (p q : Bool) → (p || q) ≡ true → (p ≡ true) ⊎ (q ≡ true)
 or-cases true q h = inl refl
 or-cases false q h = inr h
+
+-- two tests that tell each other
+pub bool-both : (a b : Bool) → (a ≡ true → b ≡ true) → (b ≡ true → a ≡ true) → a ≡ b
+bool-both true b f g = sym (f refl)
+bool-both false true f g = g refl
+bool-both false false f g = refl
 
 -- what a test says, either way
 pub says-holds : (t : Bool) (X : Type 0) → Says t X → t ≡ true → X

@@ -6,7 +6,7 @@ use native.Mathlib.Omega.{arith}
 use mathlib.Core.Path.{_≡_, sym, ap, ap₂, subst, _∙_}
 use borrow.Author.Tests.{le-leb, lt-leb, lt-ltb, le-ltb}
 use lib.Dec.{leb}
-use lib.IntN.{ℤ, pos, negsuc, negℤ, subℕ, _+ℤ_, _-ℤ_, _*ℤ_, *ℤ-comm}
+use lib.IntN.{ℤ, pos, negsuc, negℤ, natAbs, subℕ, _+ℤ_, _-ℤ_, _*ℤ_, *ℤ-comm}
 use lib.Signed.{leZ}
 
 -- ---- a difference and its value
@@ -96,27 +96,76 @@ mul-differences a b c d = by-value (λ a b z. z *ℤ subℕ c d ≡ subℕ (a * 
         (λ d n. sym (is-neg (a * (d + n) + (a + suc m) * d) (a * d + (a + suc m) * (d + n)) (suc m * n) (omega arith)))
         (λ c n. sym (is-pos (a * c + (a + suc m) * (c + suc n)) (a * (c + suc n) + (a + suc m) * c) (suc m * suc n) (omega arith))) c d
 
+-- ---- numbers whose parts are known: for each operation there is a law, so that a proof is the expression once more
+
+pub record Parts (z : ℤ) (a b : ℕ) : Type 0 where
+  pub is : z ≡ subℕ a b
+
+pub parts : (z : ℤ) → (a b : ℕ) × Parts z a b
+parts z = let (a, b, e) = difference z in (a, b, record { is = e })
+
+pub pos-parts : (n : ℕ) → Parts (pos n) n 0
+pos-parts n = record { is = sym (is-pos n 0 n (omega arith)) }
+
+module _ {x y : ℤ} {a b c d : ℕ} (p : Parts x a b) (q : Parts y c d) where
+  pub add-parts : Parts (x +ℤ y) (a + c) (b + d)
+  add-parts = record { is = ap₂ _+ℤ_ (p .is) (q .is) ∙ add-differences a b c d }
+
+  pub sub-parts : Parts (x -ℤ y) (a + d) (b + c)
+  sub-parts = record { is = ap₂ _-ℤ_ (p .is) (q .is) ∙ sub-differences a b c d }
+
+  pub mul-parts : Parts (x *ℤ y) (a * c + b * d) (a * d + b * c)
+  mul-parts = record { is = ap₂ _*ℤ_ (p .is) (q .is) ∙ mul-differences a b c d }
+
+  pub same-parts : a + d ≡ c + b → x ≡ y
+  same-parts h = p .is ∙ same-difference a b c d h ∙ sym (q .is)
+
+  pub le-parts : leZ x y ≡ leb (a + d) (c + b)
+  le-parts = ap₂ leZ (p .is) (q .is) ∙ le-differences a b c d
+
+-- how far from 0 it is
+pub abs-parts : {z : ℤ} {a b : ℕ} → Parts z a b → natAbs z ≡ a - b + (b - a)
+abs-parts {z} {a} {b} p = ap natAbs (p .is) ∙ by-value (λ a b z. natAbs z ≡ a - b + (b - a)) (λ b k. omega arith) (λ a k. omega arith) a b
+
 -- ---- laws of whole numbers
 
 -- how two numbers differ is how they differ from a third
 pub differ : (a c x : ℤ) → a -ℤ c ≡ (a -ℤ x) -ℤ (c -ℤ x)
 differ a c x =
-    let (p, p′, e) = difference a in
-    let (r, r′, f) = difference c in
-    let (k, k′, g) = difference x in
-    rw (e, f, g, sub-differences p p′ r r′, sub-differences p p′ k k′, sub-differences r r′ k k′, sub-differences (p + k′) (p′ + k) (r + k′) (r′ + k))
-    (same-difference (p + r′) (p′ + r) (p + k′ + (r′ + k)) (p′ + k + (r + k′)) (omega arith))
+    let (p, p′, e) = parts a in
+    let (r, r′, f) = parts c in
+    let (k, k′, g) = parts x in
+    same-parts (sub-parts e f) (sub-parts (sub-parts e g) (sub-parts f g)) (omega arith)
 
 -- a product of a difference
 pub less-times : (p r k : ℤ) → (p -ℤ r) *ℤ k ≡ p *ℤ k -ℤ r *ℤ k
 less-times p r k =
-    let (a, a′, e) = difference p in
-    let (b, b′, f) = difference r in
-    let (c, c′, g) = difference k in
-    rw (e, f, g)
-    (ap (λ (z : ℤ). z *ℤ subℕ c c′) (sub-differences a a′ b b′) ∙ mul-differences (a + b′) (a′ + b) c c′
-    ∙ same-difference ((a + b′) * c + (a′ + b) * c′) ((a + b′) * c′ + (a′ + b) * c) (a * c + a′ * c′ + (b * c′ + b′ * c)) (a * c′ + a′ * c + (b * c + b′ * c′)) (omega arith)
-    ∙ sym (ap₂ _-ℤ_ (mul-differences a a′ c c′) (mul-differences b b′ c c′) ∙ sub-differences (a * c + a′ * c′) (a * c′ + a′ * c) (b * c + b′ * c′) (b * c′ + b′ * c)))
+    let (a, a′, e) = parts p in
+    let (b, b′, f) = parts r in
+    let (c, c′, g) = parts k in
+    same-parts (mul-parts (sub-parts e f) g) (sub-parts (mul-parts e g) (mul-parts f g)) (omega arith)
 
 pub times-less : (k p r : ℤ) → k *ℤ (p -ℤ r) ≡ k *ℤ p -ℤ k *ℤ r
 times-less k p r = *ℤ-comm k (p -ℤ r) ∙ less-times p r k ∙ ap₂ _-ℤ_ (*ℤ-comm p k) (*ℤ-comm r k)
+
+-- ---- what goes over to the other side of an order
+
+-- what is added on the left is taken off on the right
+pub le-over : (k a d : ℤ) → leZ (k +ℤ a) d ≡ leZ a (d -ℤ k)
+le-over k a d =
+    let (r, r′, e) = parts k in
+    let (p, p′, f) = parts a in
+    let (q, q′, g) = parts d in
+    let left : r + p + q′ ≡ p + (q′ + r) = omega arith in
+    let right : q + (r′ + p′) ≡ q + r′ + p′ = omega arith in
+    le-parts (add-parts e f) g ∙ ap₂ leb left right ∙ sym (le-parts f (sub-parts g e))
+
+-- and what is taken off there is added
+pub le-back : (a k d : ℤ) → leZ (a -ℤ k) d ≡ leZ a (d +ℤ k)
+le-back a k d =
+    let (p, p′, e) = parts a in
+    let (r, r′, f) = parts k in
+    let (q, q′, g) = parts d in
+    let left : p + r′ + q′ ≡ p + (q′ + r′) = omega arith in
+    let right : q + (p′ + r) ≡ q + r + p′ = omega arith in
+    le-parts (sub-parts e f) g ∙ ap₂ leb left right ∙ sym (le-parts e (add-parts g f))

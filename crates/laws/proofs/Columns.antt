@@ -1,32 +1,25 @@
 -- Columns in a row are in range when the first and the last are; and what a frame that is not refused has. Assumes nothing.
 use Prim.Native.Nat.{ℕ, _-_, _≤_, _<_}
 use native.Mathlib.Omega.{arith}
-use mathlib.Core.Bool as bool
-use mathlib.Core.Bool.{Bool, true, false, _&&_, _||_}
+use mathlib.Core.Bool.{Bool, true, _&&_, _||_}
 use mathlib.Core.List.{List, [], _∷_}
 use mathlib.Core.Option.{none}
-use mathlib.Core.Path.{_≡_, refl, sym, ap, _∙_}
+use mathlib.Core.Path.{_≡_, sym, ap, _∙_}
 use borrow.Author.Tests.{ltb-false, eqb-false, le-leb}
 use lib.Dec.{eqb, ltb}
 use lib.IntN.{ℤ, pos, negsuc, _+ℤ_, +ℤ-idr}
 use lib.ListN.{length}
 use lib.Signed.{mag, leZ}
-use Rattle.ground.specs.Lists.{below, allOf, anyOf}
-use Rattle.ground.proofs.Branches.{and-left, and-right}
+use Rattle.ground.specs.Lists.{below, allOf}
+use Rattle.ground.proofs.Branches.{and-left, and-right, bool-both}
 use Rattle.ground.proofs.Counting.{all-true, all-at-each, first-kept}
 use Rattle.ground.proofs.Order.{leZ-trans, leZ-add}
 use Rattle.rules.specs.declared.Place.{Place}
-use Rattle.rules.specs.declared.Point.{Point}
 use Rattle.rules.specs.Ranges.{Span, within, columns, codes, frames}
 use Rattle.rules.specs.Boxes.{holds, everywhere}
-use Rattle.rules.specs.Frame.{mostSamples, column, codeAt, pointOf, frameRefusal, sampleInside}
+use Rattle.rules.specs.Frame.{mostSamples, column, codeAt, pointOf, frameRefusal}
 use Rattle.rules.specs.Refusals.{refuseIf, refuseUnless}
 use Rattle.laws.proofs.Soundness.{unless-kept, if-kept, or-false}
-
-bool-both : (a b : Bool) → (a ≡ true → b ≡ true) → (b ≡ true → a ≡ true) → a ≡ b
-bool-both true b f g = sym (f refl)
-bool-both false true f g = g refl
-bool-both false false f g = refl
 
 module _ (s : Span) (first : ℤ) (n : ℕ) (some-column : 1 ≤ n) where
   abbrev ends : Bool
@@ -99,9 +92,3 @@ module _ (samples : List ℤ) (place : Place) where
 pub point-in : {samples : List ℤ} {place : Place} → FrameRight samples place → (k : ℕ) → k < length samples → mag (codeAt samples k) < 32768
     → holds everywhere (pointOf place k (codeAt samples k)) ≡ true
 point-in {samples} {place} f k l h = rw (f .columns-in k l, code-in (codeAt samples k) h, f .frame-in)
-
--- a column holds one code, that of its sample
-pub one-code : (isInside : Point → Bool) (samples : List ℤ) (place : Place) (k : ℕ)
-    → sampleInside isInside samples place k ≡ isInside (pointOf place k (codeAt samples k))
-unfolding anyOf
-one-code isInside samples place k = bool.or-false (isInside (pointOf place k (codeAt samples k)))

@@ -3,6 +3,7 @@ pub mod Soundness
 pub mod Spans
 pub mod Axes
 pub mod Ranges
+pub mod Traces
 pub mod Trees
 pub mod Telling
 pub mod Refusing
@@ -12,6 +13,8 @@ pub mod Apart
 pub mod Numbers
 pub mod Expansion
 pub mod Spaces
+pub mod Triangles
+pub mod InBox
 pub mod Reach
 pub mod Ways
 pub mod Blanks

@@ -1,5 +1,4 @@
 pub mod Sets
-pub mod Triangles
 pub mod Agreement
 pub mod Placing
 pub mod Pruning

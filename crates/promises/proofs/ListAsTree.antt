@@ -16,7 +16,7 @@ use Rattle.ground.specs.Lists.{All, below, anyOf, orElse, firstOf, rulings}
 use Rattle.ground.proofs.Branches.{false-true, and-left, and-right}
 use Rattle.ground.proofs.Counting.{numbers-below, kept, all-kept, or-else-none, first-kept}
 use Rattle.ground.proofs.Kept.{find-same, count-same}
-use Rattle.ground.proofs.Lists.{all-map}
+use Rattle.ground.proofs.Lists.{all-map, any-same}
 use Rattle.ground.proofs.Order.{leZ-trans}
 use Rattle.rules.specs.declared.Located.{Located}
 use Rattle.rules.specs.declared.Place.{Place}
@@ -28,7 +28,7 @@ use Rattle.rules.specs.declared.Window.{Window}
 use Rattle.rules.specs.declared.Written.the-variants as written
 use Rattle.rules.specs.Boxes.{Box, holds, everywhere, windowBox}
 use Rattle.rules.specs.Choices.{expansion}
-use Rattle.rules.specs.Frame.{codeAt, pointOf, frameRefusal, leavesRefusal, sampleInside, firstInside, insideCount}
+use Rattle.rules.specs.Frame.{codeAt, heldCodes, pointOf, frameRefusal, leavesRefusal, sampleInside, firstInside, insideCount}
 use Rattle.rules.specs.Inside.{inside}
 use Rattle.rules.specs.ListCalls.{mostChoices, windowRefusal, choicesRefusal, zoneList, makeRefusal, ListMade, acceptRefusal, listPointRefusal, ListLocated, listSearchRefusal, ListSearched}
 use Rattle.rules.specs.ListFaults.{listRefusal, primitivesRefusal}
@@ -44,8 +44,8 @@ use Rattle.rules.specs.Verdict.{tableRefusal}
 use Rattle.rules.proofs.Settled.{tree-located-settled}
 use Rattle.rules.proofs.Told.{searched-once, wrote-none}
 use Rattle.laws.specs.Sound.{Sound}
-use Rattle.laws.proofs.Columns.{one-code}
 use Rattle.laws.proofs.Telling.{holds-point}
+use Rattle.laws.proofs.Traces.{held-in}
 use Rattle.promises.proofs.MadePasses.{made-window, made-accepted, made-sound}
 use Rattle.promises.proofs.Placing.{tree-choices}
 use Rattle.laws.proofs.ZoneProducts.{is-over}
@@ -87,13 +87,23 @@ module _ (box : Box) (samples : List ℤ) (place : Place) where
       ∙ kept sampleRule k (length samples) h (ap (λ (b : Bool). refuseUnless b 10 k) (held k (omega arith)))
       ∙ ap (λ (j : ℕ). rulings sampleRule j (length samples)) (add-one k)
 
--- two ways to be inside that agree at each sample
+-- the points of the codes that a column holds lie in a box that has every sample
+pub held-points : (box : Box) (samples : List ℤ) (place : Place) → ((k : ℕ) → k < length samples → sampleHeld box samples place k ≡ true)
+    → (k : ℕ) → k < length samples → All (λ code. holds box (pointOf place k code) ≡ true) (heldCodes samples k)
+held-points box samples place held k l =
+    let own = held-axes box (pointOf place k (codeAt samples k)) (held k l) in
+    all-map (λ code. within (box .y) code ≡ true) (λ code. holds box (pointOf place k code) ≡ true) (λ code y. by-axis (own .0) y (own .2))
+    (heldCodes samples k)
+    (held-in (box .y) samples (length samples) (λ j m. held-axes box (pointOf place j (codeAt samples j)) (held j m) .1) k l)
+
+-- two ways to be inside that agree at each code that a column holds
 module _ (f g : Point → Bool) (samples : List ℤ) (place : Place)
-    (agree : (k : ℕ) → k < length samples → f (pointOf place k (codeAt samples k)) ≡ g (pointOf place k (codeAt samples k))) where
+    (agree : (k : ℕ) → k < length samples → All (λ code. f (pointOf place k code) ≡ g (pointOf place k code)) (heldCodes samples k)) where
   each-sample : All (λ k. sampleInside f samples place k ≡ sampleInside g samples place k) (below (length samples))
   each-sample =
       all-map (λ k. k < 0 + length samples) (λ k. sampleInside f samples place k ≡ sampleInside g samples place k)
-      (λ k l. one-code f samples place k ∙ agree k (omega arith) ∙ sym (one-code g samples place k)) (below (length samples))
+      (λ k l. any-same (λ code. f (pointOf place k code)) (λ code. g (pointOf place k code)) (heldCodes samples k) (agree k (omega arith)))
+      (below (length samples))
       (numbers-below 0 (length samples))
 
   search-same : searchTale (firstInside f samples place) (insideCount f samples place)
@@ -218,5 +228,7 @@ module _ (t : List ℤ) (w : Window) (before after : List ℕ) (n : ℕ) (made :
     pub searches-agree : {a b : Searched} → ListSearched t after samples place a → TreeSearched t samples place b → a ≡ b
     searches-agree {a} {b} by-list by-tree =
         let same = search-same (insideList (primitives t) after) (inside (treeOf t)) samples place
-        (λ k l. list-is-tree (pointOf place k (codeAt samples k)) (held k l)) in
+        (λ k l. all-map (λ code. holds (windowBox w) (pointOf place k code) ≡ true)
+        (λ code. insideList (primitives t) after (pointOf place k code) ≡ inside (treeOf t) (pointOf place k code))
+        (λ code. list-is-tree (pointOf place k code)) (heldCodes samples k) (held-points (windowBox w) samples place held k l)) in
         searched-once a b (by-list .answer ∙ (λ i. tell (same-rule i) (same i)) ∙ sym (by-tree .answer))

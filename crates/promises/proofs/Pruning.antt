@@ -29,7 +29,7 @@ use Rattle.rules.specs.Ranges.{Span, within}
 use Rattle.rules.specs.Table.{rowCount, rowAt, solidOf, primitives}
 use Rattle.rules.specs.Tree.{Tree}
 use Rattle.laws.specs.Sound.{solidRight, RowRight, Sound}
-use Rattle.promises.proofs.Agreement.{box-holds}
+use Rattle.laws.proofs.InBox.{box-holds}
 use Rattle.laws.proofs.Firsts.{same-equal}
 use Rattle.ground.proofs.Kept.{any-made}
 use Rattle.laws.proofs.Reach.{digit-odd, digit-half}

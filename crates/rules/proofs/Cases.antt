@@ -1,10 +1,11 @@
--- Cases 1 to 12, 16 and 24 of docs/RULES.md, section 14: one table, and one theorem that all of them hold. Assumes nothing.
+-- Cases 1 to 12, 16, 24 and 28 of docs/RULES.md, section 14: one table, and one theorem that all of them hold. Assumes nothing.
 use Prim.Native.Nat.{ℕ}
 use mathlib.Core.Path.{_≡_, refl}
 use mathlib.Core.List.{List, [], _∷_, map, flatMap}
 use lib.IntN.{ℤ, pos, negsuc}
 use Rattle.ground.specs.Bits.{selected, placesWhere}
-use Rattle.ground.specs.Lists.{from, allOf, keepIf, countIf, findIf, firstOf}
+use Rattle.ground.specs.Lists.{from, allOf, anyOf, keepIf, countIf, findIf, firstOf}
+use Rattle.rules.specs.declared.Place.{Place}
 use Rattle.rules.specs.declared.Point.{Point}
 use Rattle.rules.specs.declared.Product.{Product}
 use Rattle.rules.specs.declared.Window.{Window}
@@ -13,12 +14,13 @@ use Rattle.rules.specs.Table.{primitives}
 use Rattle.rules.specs.Verdict.{tableRefusal}
 use Rattle.rules.specs.Tree.{trees, treeOf}
 use Rattle.rules.specs.Inside.{inside}
+use Rattle.rules.specs.Frame.{firstInside, insideCount}
 use Rattle.rules.specs.Choices.{choices, _crossed-with_, expansion}
 use Rattle.rules.specs.Products.{firsts, products}
 use Rattle.rules.specs.Refusals.{refuse}
-use Rattle.rules.specs.Told.{Told, fine, sound, inside as is-inside, outside, tell}
-use Rattle.rules.specs.TreeCalls.{treePointRefusal, pointTale}
-use Rattle.rules.proofs.Zones.{q, qApart, farCuts, crossing, cutOfCut, swapped, wedge, drum, triangle, turnedRound, flat, twoBoxes, deepBox, columnsOf, spot, at}
+use Rattle.rules.specs.Told.{Told, fine, sound, inside as is-inside, outside, clear, hit, tell}
+use Rattle.rules.specs.TreeCalls.{treePointRefusal, pointTale, searchTale, treeSearchRefusal}
+use Rattle.rules.proofs.Zones.{q, qApart, farCuts, crossing, cutOfCut, swapped, wedge, drum, triangle, turnedRound, flat, twoBoxes, deepBox, banded, columnsOf, spot, at}
 
 -- what the definitions say of a zone
 pub data Says : Type 0 where
@@ -37,6 +39,12 @@ listIn w t = lists (products w (primitives t) (treeOf t))
 abbrev point : List ℤ → Point → Says
 point t p = tells (tell (treePointRefusal t p) (pointTale (inside (treeOf t) p)))
 
+-- a frame of so many codes from a column on, in frame 0
+abbrev search : List ℤ → ℤ → List ℤ → Says
+search t first samples =
+    let place : Place = record { first = first; frame = pos 0 } in
+    tells (tell (treeSearchRefusal t samples place) (searchTale (firstInside (inside (treeOf t)) samples place) (insideCount (inside (treeOf t)) samples place)))
+
 abbrev check : List ℤ → Says
 check t = tells (tell (tableRefusal t) sound)
 
@@ -48,6 +56,12 @@ isIn = tells (fine is-inside)
 
 abbrev isOut : Says
 isOut = tells (fine outside)
+
+abbrev isClear : Says
+isClear = tells (fine clear)
+
+abbrev isHit : ℕ → ℕ → Says
+isHit first count = tells (fine (hit first count))
 
 abbrev isSound : Says
 isSound = tells (fine sound)
@@ -98,8 +112,17 @@ cases =
     ∷ row 24 (point turnedRound (at 6 5)) isOut
     ∷ row 24 (point turnedRound (spot (pos 11) (negsuc 0))) isOut
     ∷ row 24 (check flat) (refused 3 0)
+    ∷ row 28 (search q (pos 19) (negsuc 2 ∷ pos 3 ∷ negsuc 2 ∷ [])) (isHit 1 2)
+    ∷ row 28 (search q (pos 19) (pos 0 ∷ pos 5 ∷ [])) isClear
+    ∷ row 28 (search q (pos 19) (pos 5 ∷ pos 0 ∷ [])) (isHit 1 1)
+    ∷ row 28 (search q (pos 19) (pos 0 ∷ pos 0 ∷ [])) (isHit 1 1)
+    ∷ row 28 (search q (pos 20) (pos 0 ∷ pos 1 ∷ pos 0 ∷ [])) (isHit 0 2)
+    ∷ row 28 (search banded (pos 0) (pos 45 ∷ pos 55 ∷ [])) isClear
+    ∷ row 28 (search banded (pos 0) (pos 60 ∷ pos 61 ∷ [])) (isHit 1 1)
+    ∷ row 28 (search banded (pos 0) (pos 61 ∷ pos 39 ∷ [])) (isHit 0 2)
+    ∷ row 28 (search banded (pos 0) (pos 110 ∷ [])) isClear
     ∷ []
 
 pub cases-hold : map (λ (c : Case). c .says) cases ≡ map (λ (c : Case). c .expected) cases
-unfolding tableRefusal trees inside choices _crossed-with_ firsts products from allOf keepIf countIf findIf firstOf selected placesWhere flatMap
+unfolding tableRefusal trees inside firstInside insideCount choices _crossed-with_ firsts products from allOf anyOf keepIf countIf findIf firstOf selected placesWhere flatMap
 cases-hold = refl

@@ -202,6 +202,40 @@ list-first-sample-only r h g =
     let f = list-searched-settled g right-list-leaving in
     never (cc)
 
+-- ---- ones that hold other codes in a column than those from the sample before to the sample's own
+
+-- columns 19, 20 and 21 once more: no sample stands in Q, and an edge crosses it in column 20 upwards, in column 21 downwards
+abbrev crossed : List ℤ
+crossed = negsuc 2 ∷ pos 3 ∷ negsuc 2 ∷ []
+
+pub right-tree-crossed : TreeSearched q crossed from19 (searched.Hit 1 2)
+unfolding tableRefusal trees inside firstInside insideCount from allOf anyOf countIf findIf firstOf flatMap
+right-tree-crossed = record { answer = refl }
+
+pub right-list-crossed : ListSearched q qList crossed from19 (searched.Hit 1 2)
+unfolding tableRefusal listRefusal acceptRefusal insideProduct insideList firstInside insideCount from allOf anyOf countIf findIf firstOf selected flatMap
+right-list-crossed = record { answer = refl }
+
+pub tree-samples-only : TreeSearched q crossed from19 searched.Clear → ⊥
+tree-samples-only h = let e = tree-searched-settled h right-tree-crossed in never (cc)
+
+pub list-samples-only : ListSearched q qList crossed from19 searched.Clear → ⊥
+list-samples-only h = let e = list-searched-settled h right-list-crossed in never (cc)
+
+-- edges of one direction alone are filled: one of the two columns is missed
+pub tree-one-direction : (first : ℕ) → TreeSearched q crossed from19 (searched.Hit first 1) → ⊥
+tree-one-direction first h = let e = tree-searched-settled h right-tree-crossed in let n : _≡_ {A = ℕ} 1 2 = cc in omega arith
+
+pub list-one-direction : (first : ℕ) → ListSearched q qList crossed from19 (searched.Hit first 1) → ⊥
+list-one-direction first h = let e = list-searched-settled h right-list-crossed in let n : _≡_ {A = ℕ} 1 2 = cc in omega arith
+
+-- the code of the sample before is counted: in `leaving` it is the only one inside
+pub tree-earlier-code-counted : (first count : ℕ) → TreeSearched q leaving from19 (searched.Hit first count) → ⊥
+tree-earlier-code-counted first count h = let e = tree-searched-settled h right-tree-leaving in never (cc)
+
+pub list-earlier-code-counted : (first count : ℕ) → ListSearched q qList leaving from19 (searched.Hit first count) → ⊥
+list-earlier-code-counted first count h = let e = list-searched-settled h right-list-leaving in never (cc)
+
 -- ---- one that invents the number of inside samples: where there are two, no other number does
 
 pub tree-invented-count : (first count : ℕ) → (count ≡ 2 → ⊥) → TreeSearched q three from19 (searched.Hit first count) → ⊥
@@ -241,6 +275,18 @@ module _ {after : List ℕ} {r : Written} (h : From (negsuc 0) after r) where
 
   pub positions-over-the-frames : word after 4 ≡ length three + 1 → ⊥
   positions-over-the-frames is = let e : _≡_ {A = ℕ} 1 4 = same-word (negsuc 0) right-screen h 4 ∙ is in omega arith
+
+-- ---- one that fills sample 0 from the frame before: from code 5 of frame -1 to code -5 of frame 0 an edge would cross Q in column 20
+
+abbrev TwoSingles : List ℕ → Written → Type 0
+TwoSingles = ScreenSearched q qList (pos 5 ∷ negsuc 4 ∷ []) 2 (record { first = pos 20; frame = negsuc 0 }) tripleRoom
+
+pub right-singles : TwoSingles (0 ∷ 0 ∷ 0 ∷ 0 ∷ 0 ∷ 0 ∷ 7 ∷ []) (written.Wrote 6)
+unfolding tableRefusal listRefusal acceptRefusal insideProduct insideList firstInside insideCount screenTriples from allOf anyOf countIf findIf firstOf selected flatMap
+right-singles = record { answer = refl; buffer = refl }
+
+pub filled-from-the-frame-before : {after : List ℕ} {r : Written} → TwoSingles after r → word after 3 ≡ 1 → ⊥
+filled-from-the-frame-before h is = let e : _≡_ {A = ℕ} 0 1 = ap (λ (ws : List ℕ). word ws 3) (screen-searched-settled right-singles h .1) ∙ is in omega arith
 
 -- ---- one that forgets the hundred of a refused frame, and one that stops there: frame 1048576 does not exist, and neither does frame -1048577
 

@@ -98,3 +98,10 @@ spot x y = record { x = x; y = y; z = nought }
 
 abbrev pub at : ℕ → ℕ → Point
 at x y = spot (pos x) (pos y)
+
+-- columns 0..9 and codes 0..100, less codes 40..60
+abbrev band : ℕ → ℕ → List ℤ
+band lo hi = nought ∷ nought ∷ pos 9 ∷ pos lo ∷ pos hi ∷ nought ∷ nought ∷ nought ∷ nought ∷ nought ∷ nought ∷ nought ∷ []
+
+abbrev pub banded : List ℤ
+banded = band 0 100 ++ (band 40 60 ++ diff 0 1)

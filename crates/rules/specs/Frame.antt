@@ -1,16 +1,18 @@
 -- Section 10 of docs/RULES.md: a frame's samples, and what a search finds among them.
-use Prim.Native.Nat.{ℕ}
+use Prim.Native.Nat.{ℕ, zero, suc}
 use mathlib.Core.Bool.{Bool, _||_}
-use mathlib.Core.List.{List, [], _∷_}
+use mathlib.Core.List.{List, [], _∷_, map}
 use mathlib.Core.Option.{Option}
 use lib.Dec.{eqb, ltb}
-use lib.IntN.{ℤ, pos, _+ℤ_}
+use lib.IntN.{ℤ, pos, natAbs, _+ℤ_, _-ℤ_}
 use lib.ListN.{length, getD}
+use lib.Signed.{ltZ}
 use Rattle.ground.specs.Lists.{below, allOf, anyOf, countIf, findIf, firstOf, rulings}
+use Rattle.ground.specs.Tests.{if_then_else_}
 use Rattle.rules.specs.declared.Place.{Place}
 use Rattle.rules.specs.declared.Point.{Point}
 use Rattle.rules.specs.declared.Refusal.{Refusal}
-use Rattle.rules.specs.Ranges.{within, columns, frames}
+use Rattle.rules.specs.Ranges.{Span, within, columns, frames}
 use Rattle.rules.specs.Boxes.{Box, holds}
 use Rattle.rules.specs.Refusals.{refuseIf, refuseUnless}
 
@@ -24,9 +26,23 @@ column place k = place .first +ℤ pos k
 abbrev pub codeAt : List ℤ → ℕ → ℤ
 codeAt samples k = getD samples k (pos 0)
 
--- the codes that the column of sample k holds: its own
+-- from the code before, itself left out unless equal, to this code, both directions alike
+abbrev pub fill : ℤ → ℤ → Span
+fill before code =
+    if ltZ before code then record { lo = before +ℤ pos 1; hi = code }
+    else (if ltZ code before then record { lo = code; hi = before -ℤ pos 1 } else record { lo = code; hi = code })
+
+-- the span of codes that the column of sample k holds: sample 0 has none before it, and holds its own code
+abbrev pub heldSpan : List ℤ → ℕ → Span
+heldSpan samples zero = record { lo = codeAt samples 0; hi = codeAt samples 0 }
+heldSpan samples (suc k) = fill (codeAt samples k) (codeAt samples (suc k))
+
+-- the codes from the span's lo, rising, to its hi, which is not below
+abbrev pub codesOf : Span → List ℤ
+codesOf s = map (λ i. s .lo +ℤ pos i) (below (suc (natAbs (s .hi -ℤ s .lo))))
+
 abbrev pub heldCodes : List ℤ → ℕ → List ℤ
-heldCodes samples k = codeAt samples k ∷ []
+heldCodes samples k = codesOf (heldSpan samples k)
 
 abbrev pub pointOf : Place → ℕ → ℤ → Point
 pointOf place k code = record { x = column place k; y = code; z = place .frame }

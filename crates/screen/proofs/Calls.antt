@@ -21,7 +21,7 @@ use Rattle.rules.specs.Refusals.{roomRefusal}
 use Rattle.rules.specs.Screen.{framesRefusal, tripleWords}
 use Rattle.rules.specs.Told.{wrote, tell}
 use Rattle.laws.proofs.Soundness.{unless-kept}
-use Rattle.answer.specs.Checks.{Accepted}
+use Rattle.says.specs.Checks.{Accepted}
 use Rattle.screen.specs.Shape.{shapeRefusal}
 use Rattle.screen.proofs.Frames.{triples-length, triples-all}
 

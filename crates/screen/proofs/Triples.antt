@@ -28,7 +28,7 @@ use Rattle.rules.specs.Told.{fine, refused}
 use Rattle.rules.specs.TreeCalls.{searchTale}
 use Rattle.laws.proofs.Columns.{frame-right}
 use Rattle.laws.proofs.Refusing.{Gives, if-gives, unless-gives, first-gives, rulings-give, told-by}
-use Rattle.answer.specs.Checks.{Accepted}
+use Rattle.says.specs.Checks.{Accepted}
 use Rattle.screen.specs.Triples.{Small}
 
 abbrev SmallRefusal : Refusal → Type 0

@@ -14,7 +14,7 @@ ghost use Rattle.rules.specs.Screen.{mostFrames, framesRefusal, later, tripleWo
 ghost use Rattle.rules.specs.ListCalls.{ListSearched, screenTriples, ScreenSearched};
 ghost use Rattle.rules.specs.Told.{toldSearched};
 ghost use Rattle.laws.specs.Checking.{checkedBy};
-ghost use Rattle.answer.specs.Checks.{Accepted};
+ghost use Rattle.says.specs.Checks.{Accepted};
 ghost use Rattle.screen.specs.Places.{Alike};
 ghost use Rattle.screen.specs.Shape.{shapeRefusal};
 ghost use Rattle.screen.specs.Triples.{Small};

@@ -6,13 +6,15 @@ use rules::Point;
 use rules::Primitive;
 use rules::TriangleShape;
 use rules::WedgeShape;
+ghost use Prim.Native.Nat.{_≤_};
 ghost use mathlib.Core.Bool.{true};
 ghost use mathlib.Core.Path.{_≡_};
+ghost use lib.IntN.{natAbs, _+ℤ_, _-ℤ_, _*ℤ_};
 ghost use Rattle.rules.specs.declared.Primitive.the-variants as primitive;
 ghost use Rattle.rules.specs.Ranges.{within, lesser, greater, around, columns, codes, frames};
 ghost use Rattle.rules.specs.Boxes.{holds, everywhere};
 ghost use Rattle.rules.specs.Fields.{slopes, radii, wedgeRight, drumRight, cornerRight, triangleRight};
-ghost use Rattle.rules.specs.Inside.{bounds, halfSpace, inEllipse, oneSided, insideWedge, insideDrum, insideTriangle, insideSolid};
+ghost use Rattle.rules.specs.Inside.{bounds, halfSpace, square, inEllipse, oneSided, insideWedge, insideDrum, insideTriangle, insideSolid};
 ghost use Rattle.rules.specs.Products.{boxOf};
 ghost use Rattle.rules.specs.Sides.{side};
 ghost use Rattle.laws.specs.Sound.{solidRight};
@@ -29,7 +31,7 @@ pub fn greater(a: i32, b: i32) -> i32
     if a <= b { b } else { a }
 }
 
-fn in_box(b: BoxShape, p: Point) -> bool
+pub fn in_box(b: BoxShape, p: Point) -> bool
     ensures { λ r. ⌜ r ≡ holds (bounds b) p ⌝ }
 {
     ((b.xlo <= p.x) & (p.x <= b.xhi))
@@ -45,18 +47,28 @@ fn half_space(a: i32, b: i32, c: i32, d: i32, x: i32, y: i32, z: i32) -> bool
     (a as i64) * (x as i64) + (b as i64) * (y as i64) + (c as i64) * (z as i64) <= (d as i64)
 }
 
-// ry²(x - cx)² + rx²(y - cy)² <= rx²ry²
+// ry²(x - cx)² + rx²(y - cy)² - rx²ry²: above 0 out of the ellipse.
+pub fn past_ellipse(cx: i32, cy: i32, rx: i32, ry: i32, x: i32, y: i32) -> i64
+    requires { ⌜ (within columns cx ≡ true) × (within codes cy ≡ true) ⌝ }
+    requires { ⌜ (within radii rx ≡ true) × (within radii ry ≡ true) ⌝ }
+    requires { ⌜ (within columns x ≡ true) × (within codes y ≡ true) ⌝ }
+    ensures { λ r. ⌜ r ≡ square ry *ℤ square (x -ℤ cx) +ℤ square rx *ℤ square (y -ℤ cy) -ℤ square rx *ℤ square ry ⌝ }
+    ensures bounded { λ r. ⌜ natAbs r ≤ 1000000000000000000 ⌝ }
+{
+    let dx = (x as i64) - (cx as i64);
+    let dy = (y as i64) - (cy as i64);
+    let u = (rx as i64) * (rx as i64);
+    let v = (ry as i64) * (ry as i64);
+    v * (dx * dx) + u * (dy * dy) - u * v
+}
+
 fn in_ellipse(cx: i32, cy: i32, rx: i32, ry: i32, x: i32, y: i32) -> bool
     requires { ⌜ (within columns cx ≡ true) × (within codes cy ≡ true) ⌝ }
     requires { ⌜ (within radii rx ≡ true) × (within radii ry ≡ true) ⌝ }
     requires { ⌜ (within columns x ≡ true) × (within codes y ≡ true) ⌝ }
     ensures { λ r. ⌜ r ≡ inEllipse cx cy rx ry x y ⌝ }
 {
-    let dx = (x as i64) - (cx as i64);
-    let dy = (y as i64) - (cy as i64);
-    let u = (rx as i64) * (rx as i64);
-    let v = (ry as i64) * (ry as i64);
-    v * (dx * dx) + u * (dy * dy) <= u * v
+    past_ellipse(cx, cy, rx, ry, x, y) <= 0
 }
 
 fn in_wedge(w: WedgeShape, p: Point) -> bool

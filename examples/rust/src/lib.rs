@@ -95,6 +95,8 @@ pub fn tree_point(table: &[i32], point: Point) -> Located {
     })
 }
 
+/// A sample is inside where some code that its column holds is: those from the code before, itself left out unless equal, to
+/// its own.
 pub fn tree_search(table: &[i32], codes: &[i16], place: Place) -> Searched {
     searched(unsafe {
         calls::lampholly_tree_search(

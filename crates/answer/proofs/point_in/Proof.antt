@@ -36,8 +36,8 @@ enum-known-placed c = search needs
 enum-told : tie.Need-enum-told
 enum-told c = search needs
 
-list-inside-requires : tie.Need-list-inside-requires
-list-inside-requires c κs =
+inside-at-requires : tie.Need-inside-at-requires
+inside-at-requires c κs =
     let at-window-of = c .before .before .before in
     let s = at-window-of .before .before in
     let list = s .args .list .now in
@@ -55,14 +55,14 @@ returns-2 c =
     let d = c .before .before in
     let at-window-of = d .before .before .before in
     let s = at-window-of .before .before in
-    point-inside (s .args .table .now) (s .args .list .now) (s .args .p) (s .pre) (in-window d) (sym (c .before .list-inside .ensures) ∙ c .if1 .taken)
+    point-inside (s .args .table .now) (s .args .list .now) (s .args .p) (s .pre) (in-window d) (sym (c .before .inside-at .ensures) ∙ c .if1 .taken)
 
 returns-3 : tie.Need-returns-3
 returns-3 c =
     let d = c .before .before in
     let at-window-of = d .before .before .before in
     let s = at-window-of .before .before in
-    point-outside (s .args .table .now) (s .args .list .now) (s .args .p) (s .pre) (in-window d) (sym (c .before .list-inside .ensures) ∙ c .if1 .left)
+    point-outside (s .args .table .now) (s .args .list .now) (s .args .p) (s .pre) (in-window d) (sym (c .before .inside-at .ensures) ∙ c .if1 .left)
 
 pub point-in-spec : {M : Type 1} → statement M
 point-in-spec =
@@ -72,7 +72,7 @@ point-in-spec =
     check-point-requires
     enum-known-placed
     enum-told
-    list-inside-requires
+    inside-at-requires
     returns
     returns-2
     returns-3)

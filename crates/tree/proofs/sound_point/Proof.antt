@@ -30,8 +30,14 @@ enum-known-placed c = search needs
 enum-told : tie.Need-enum-told
 enum-told c = search needs
 
-zone-inside-requires : tie.Need-zone-inside-requires
-zone-inside-requires c κs = let s = c .before .before .before .before in (table-sound (s .args .table .now) (s .pre), point-holds everywhere (s .args .p) (in-range c))
+slice-aggregate-inside-at : tie.Need-slice-aggregate-inside-at
+slice-aggregate-inside-at c = search needs
+
+inside-at-requires : tie.Need-inside-at-requires
+inside-at-requires c κs =
+    let d = c .before in
+    let s = d .before .before .before .before in
+    (table-sound (s .args .table .now) (s .pre), point-holds everywhere (s .args .p) (in-range d))
 
 returns : tie.Need-returns
 returns c =
@@ -41,15 +47,15 @@ returns c =
 
 returns-2 : tie.Need-returns-2
 returns-2 c =
-    let d = c .before .before in
+    let d = c .before .before .before in
     let s = d .before .before .before .before in
-    point-inside (s .args .table .now) (s .args .p) (s .pre) (in-range d) (sym (c .before .zone-inside .ensures) ∙ c .if1 .taken)
+    point-inside (s .args .table .now) (s .args .p) (s .pre) (in-range d) (sym (c .before .inside-at .ensures) ∙ c .if1 .taken)
 
 returns-3 : tie.Need-returns-3
 returns-3 c =
-    let d = c .before .before in
+    let d = c .before .before .before in
     let s = d .before .before .before .before in
-    point-outside (s .args .table .now) (s .args .p) (s .pre) (in-range d) (sym (c .before .zone-inside .ensures) ∙ c .if1 .left)
+    point-outside (s .args .table .now) (s .args .p) (s .pre) (in-range d) (sym (c .before .inside-at .ensures) ∙ c .if1 .left)
 
 pub sound-point-spec : {M : Type 1} → statement M
 sound-point-spec =
@@ -59,7 +65,8 @@ sound-point-spec =
     check-point-requires
     enum-known-placed
     enum-told
-    zone-inside-requires
+    slice-aggregate-inside-at
+    inside-at-requires
     returns
     returns-2
     returns-3)

@@ -23,8 +23,14 @@ enum-known-framed c = search needs
 enum-told : tie.Need-enum-told
 enum-told c = search needs
 
+slice-aggregate-scan : tie.Need-slice-aggregate-scan
+slice-aggregate-scan c = search needs
+
 scan-requires : tie.Need-scan-requires
-scan-requires c κs = let s = c .before .before .before in (table-sound (s .args .table .now) (s .pre), framed c)
+scan-requires c κs =
+    let d = c .before in
+    let s = d .before .before .before in
+    (table-sound (s .args .table .now) (s .pre), framed d)
 
 answer-requires : tie.Need-answer-requires
 answer-requires c κs = search needs
@@ -37,7 +43,7 @@ returns c =
 
 returns-2 : tie.Need-returns-2
 returns-2 c =
-    let d = c .before .before in
+    let d = c .before .before .before in
     let s = d .before .before .before in
     search-fine (s .args .table .now) (s .args .samples .now) (s .args .place) (s .pre) (framed d) (c .before .scan .ensures) (c .answer .result) (c .answer .ensures)
 
@@ -48,6 +54,7 @@ sound-search-spec =
     check-frame-requires
     enum-known-framed
     enum-told
+    slice-aggregate-scan
     scan-requires
     answer-requires
     returns

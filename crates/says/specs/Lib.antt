@@ -1,0 +1,3 @@
+pub mod Checks
+pub mod Asking
+pub mod Saids

@@ -1,0 +1,4 @@
+pub mod Order
+pub mod Along
+pub mod Shapes
+pub mod Round
