@@ -15,12 +15,6 @@ module _ (p q : Bool) where
   pub and-no : p ≡ false → false ≡ (p && q)
   and-no h = rw h
 
-  pub or-yes : p ≡ true → true ≡ (p || q)
-  or-yes h = rw h
-
-  pub or-no : p ≡ false → q ≡ (p || q)
-  or-no h = rw h
-
 -- both parts of `p && q`
 pub and-left : (p q : Bool) → (p && q) ≡ true → p ≡ true
 and-left true q h = refl

@@ -236,6 +236,27 @@ tree-earlier-code-counted first count h = let e = tree-searched-settled h right-
 pub list-earlier-code-counted : (first count : ℕ) → ListSearched q qList leaving from19 (searched.Hit first count) → ⊥
 list-earlier-code-counted first count h = let e = list-searched-settled h right-list-leaving in never (cc)
 
+-- sample 0 is filled, as from the foot of the screen: one sample stands in column 20, over Q, and none before it
+abbrev from20 : Place
+from20 = record { first = pos 20; frame = nought }
+
+abbrev alone : List ℤ
+alone = pos 5 ∷ []
+
+pub right-tree-alone : TreeSearched q alone from20 searched.Clear
+unfolding tableRefusal trees inside firstInside insideCount from allOf anyOf countIf findIf firstOf flatMap
+right-tree-alone = record { answer = refl }
+
+pub right-list-alone : ListSearched q qList alone from20 searched.Clear
+unfolding tableRefusal listRefusal acceptRefusal insideProduct insideList firstInside insideCount from allOf anyOf countIf findIf firstOf selected flatMap
+right-list-alone = record { answer = refl }
+
+pub tree-sample-0-filled : (first count : ℕ) → TreeSearched q alone from20 (searched.Hit first count) → ⊥
+tree-sample-0-filled first count h = let e = tree-searched-settled h right-tree-alone in never (cc)
+
+pub list-sample-0-filled : (first count : ℕ) → ListSearched q qList alone from20 (searched.Hit first count) → ⊥
+list-sample-0-filled first count h = let e = list-searched-settled h right-list-alone in never (cc)
+
 -- ---- one that invents the number of inside samples: where there are two, no other number does
 
 pub tree-invented-count : (first count : ℕ) → (count ≡ 2 → ⊥) → TreeSearched q three from19 (searched.Hit first count) → ⊥

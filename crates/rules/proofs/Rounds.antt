@@ -1,13 +1,13 @@
 -- Whichever way round: a triangle whose corners are named in another order holds the same points. Each order comes of exchanging the first two
 -- corners and of turning all three on. And the three sides of a point add up to twice the area, whose sign they have where they agree. Assumes nothing.
-use Prim.Native.Nat.{ℕ, zero, suc, _+_}
+use Prim.Native.Nat.{zero, suc}
 use native.Mathlib.Omega.{arith}
 use mathlib.Core.Bool.{Bool, _&&_, _||_, and-comm, and-assoc, or-comm}
 use mathlib.Core.Path.{_≡_, refl, sym, ap, ap₂, _∙_}
 use borrow.Author.Tests.{le-leb, lt-leb}
-use lib.IntN.{ℤ, pos, negsuc, negℤ, subℕ, _+ℤ_, _*ℤ_, _-ℤ_, +ℤ-comm, negℤ-negℤ, negℤ-+ℤ}
+use lib.IntN.{ℤ, pos, negsuc, negℤ, _+ℤ_, _*ℤ_, _-ℤ_, +ℤ-comm, negℤ-negℤ, negℤ-+ℤ}
 use lib.Signed.{leZ}
-use Rattle.ground.proofs.Differences.{difference, same-difference, add-differences, sub-differences, differ, less-times, times-less}
+use Rattle.ground.proofs.Differences.{parts, add-parts, sub-parts, same-parts, differ, less-times, times-less}
 use Rattle.rules.specs.declared.Corner.{Corner}
 use Rattle.rules.specs.declared.Point.{Point}
 use Rattle.rules.specs.declared.TriangleShape.{TriangleShape}
@@ -67,21 +67,15 @@ module _ (t : TriangleShape) (p : Point) where
 -- seven numbers, taken away and added in two ways
 shuffled : (A B C D E F G : ℤ) → A -ℤ B -ℤ (C -ℤ D) -ℤ (E -ℤ F -ℤ (G -ℤ D)) ≡ A -ℤ E +ℤ (F -ℤ C) +ℤ (G -ℤ B)
 shuffled A B C D E F G =
-    let (a, a′, p) = difference A in
-    let (b, b′, q) = difference B in
-    let (c, c′, r) = difference C in
-    let (d, d′, s) = difference D in
-    let (e, e′, t) = difference E in
-    let (f, f′, u) = difference F in
-    let (g, g′, v) = difference G in
-    rw (p, q, r, s, t, u, v)
-    (ap₂ _-ℤ_ (pair a a′ b b′ c c′ d d′) (pair e e′ f f′ g g′ d d′) ∙ sub-differences (a + b′ + (c′ + d)) (a′ + b + (c + d′)) (e + f′ + (g′ + d)) (e′ + f + (g + d′))
-    ∙ same-difference (a + b′ + (c′ + d) + (e′ + f + (g + d′))) (a′ + b + (c + d′) + (e + f′ + (g′ + d))) (a + e′ + (f + c′) + (g + b′)) (a′ + e + (f′ + c) + (g′ + b)) (omega arith)
-    ∙ sym (ap₂ _+ℤ_ (ap₂ _+ℤ_ (sub-differences a a′ e e′) (sub-differences f f′ c c′) ∙ add-differences (a + e′) (a′ + e) (f + c′) (f′ + c)) (sub-differences g g′ b b′)
-    ∙ add-differences (a + e′ + (f + c′)) (a′ + e + (f′ + c)) (g + b′) (g′ + b)))
-  where
-    pair : (a a′ b b′ c c′ d d′ : ℕ) → subℕ a a′ -ℤ subℕ b b′ -ℤ (subℕ c c′ -ℤ subℕ d d′) ≡ subℕ (a + b′ + (c′ + d)) (a′ + b + (c + d′))
-    pair a a′ b b′ c c′ d d′ = ap₂ _-ℤ_ (sub-differences a a′ b b′) (sub-differences c c′ d d′) ∙ sub-differences (a + b′) (a′ + b) (c + d′) (c′ + d)
+    let (a, a′, p) = parts A in
+    let (b, b′, q) = parts B in
+    let (c, c′, r) = parts C in
+    let (d, d′, s) = parts D in
+    let (e, e′, t) = parts E in
+    let (f, f′, u) = parts F in
+    let (g, g′, v) = parts G in
+    same-parts (sub-parts (sub-parts (sub-parts p q) (sub-parts r s)) (sub-parts (sub-parts t u) (sub-parts v s)))
+    (add-parts (add-parts (sub-parts p t) (sub-parts u r)) (sub-parts v q)) (omega arith)
 
 pub sides-add : (t : TriangleShape) (x y : ℤ) → side (t .first) (t .second) x y +ℤ side (t .second) (t .third) x y +ℤ side (t .third) (t .first) x y ≡ twiceArea t
 sides-add t x y =
