@@ -15,14 +15,14 @@ use Rattle.rules.specs.declared.Point.{Point}
 use Rattle.rules.specs.declared.Primitive.{Primitive}
 use Rattle.rules.specs.declared.Primitive.the-variants as primitive
 use Rattle.rules.specs.Boxes.{Box, holds, everywhere}
-use Rattle.rules.specs.Fields.{radii, endsRight, boxRight, slopesRight, reachRight}
+use Rattle.rules.specs.Fields.{radii, boxRight, reachRight}
 use Rattle.rules.specs.Inside.{bounds, insideSolid}
 use Rattle.rules.specs.ListWords.{raised}
 use Rattle.rules.specs.Products.{boxOf}
-use Rattle.rules.specs.Ranges.{within, lesser, greater, around, columns, codes, frames}
+use Rattle.rules.specs.Ranges.{within, lesser, greater, around, columns}
 use Rattle.laws.specs.Sound.{solidRight}
 use Rattle.laws.proofs.InBox.{box-holds}
-use Rattle.laws.proofs.Ranges.{second, third, corner-x-in, corner-y-in, first-right, second-right, third-right, corners-right}
+use Rattle.laws.proofs.Ranges.{second, third, box-columns-in, box-codes-in, bounds-right, x-reach, y-reach, corner-x-in, corner-y-in, first-right, second-right, third-right, corners-right}
 use Rattle.laws.proofs.Spaces.{by-axis}
 use Rattle.span.proofs.Order.{from-place, to-place}
 use Rattle.margin.specs.Margins.{spot, Margin}
@@ -32,23 +32,10 @@ use Rattle.calm.specs.Calms.{Ranged, Boxed, Bounded, edgesOf}
 
 -- ---- in range
 
--- the ends of two axes of a box are coordinates
-record Axes (b : Box) : Type 0 where
-  xlo : within columns (b .x .lo) ≡ true
-  xhi : within columns (b .x .hi) ≡ true
-  ylo : within columns (b .y .lo) ≡ true
-  yhi : within columns (b .y .hi) ≡ true
-
-ends-in : (lo hi : ℤ) → endsRight columns lo hi ≡ true → (within columns lo ≡ true) × (within columns hi ≡ true)
-ends-in lo hi h = (and-left (within columns lo) (within columns hi && leZ lo hi) h, second (within columns lo) (within columns hi) (leZ lo hi) h)
-
-box-axes : (b : BoxShape) → boxRight b ≡ true → Axes (bounds b)
-box-axes b h =
-    let x = endsRight columns (b .xlo) (b .xhi) in
-    let y = endsRight codes (b .ylo) (b .yhi) in
-    let z = endsRight frames (b .zlo) (b .zhi) in
-    let p = ends-in (b .xlo) (b .xhi) (and-left x (y && z) h) in
-    let q = ends-in (b .ylo) (b .yhi) (second x y z h) in
+box-ranged : (b : BoxShape) → boxRight b ≡ true → Ranged (bounds b)
+box-ranged b h =
+    let p = box-columns-in b h in
+    let q = box-codes-in b h in
     record { xlo = p .0; xhi = p .1; ylo = q .0; yhi = q .1 }
 
 reach-in : (c r : ℤ) → reachRight columns c r ≡ true → (within columns (c -ℤ r) ≡ true) × (within columns (c +ℤ r) ≡ true)
@@ -67,17 +54,14 @@ around-in : (a b c : ℤ) → within columns a ≡ true → within columns b ≡
 around-in a b c p q r =
     (one-of (leZ (lesser a b) c) (lesser a b) c (one-of (leZ a b) a b p q) r, one-of (leZ (greater a b) c) c (greater a b) r (one-of (leZ a b) b a q p))
 
-solid-axes : (s : Primitive) → solidRight s ≡ true → Axes (boxOf s)
-solid-axes (primitive.Box b) h = box-axes b h
-solid-axes (primitive.Wedge w) h = box-axes (w .bounds) (and-left (boxRight (w .bounds)) (slopesRight (w .a) (w .b) (w .c)) h)
-solid-axes (primitive.Drum d) h =
-    let x = reachRight columns (d .cx) (d .rx) in
-    let y = reachRight codes (d .cy) (d .ry) in
-    let z = endsRight frames (d .zlo) (d .zhi) in
-    let p = reach-in (d .cx) (d .rx) (and-left x (y && z) h) in
-    let q = reach-in (d .cy) (d .ry) (second x y z h) in
+solid-ranged : (s : Primitive) → solidRight s ≡ true → Ranged (boxOf s)
+solid-ranged (primitive.Box b) h = box-ranged b h
+solid-ranged (primitive.Wedge w) h = box-ranged (w .bounds) (bounds-right w h)
+solid-ranged (primitive.Drum d) h =
+    let p = reach-in (d .cx) (d .rx) (x-reach d h) in
+    let q = reach-in (d .cy) (d .ry) (y-reach d h) in
     record { xlo = p .0; xhi = p .1; ylo = q .0; yhi = q .1 }
-solid-axes (primitive.Triangle t) h =
+solid-ranged (primitive.Triangle t) h =
     let corners = corners-right t h in
     let a = first-right t corners in
     let b = second-right t corners in
@@ -87,11 +71,8 @@ solid-axes (primitive.Triangle t) h =
     record { xlo = p .0; xhi = p .1; ylo = q .0; yhi = q .1 }
 
 module _ (s : Primitive) (right : solidRight s ≡ true) (b : BoxShape) (e : bounds b ≡ boxOf s) where
-  axes : Axes (bounds b)
-  axes = subst Axes (sym e) (solid-axes s right)
-
-  pub box-ranged : Ranged b
-  box-ranged = record { xlo = axes .xlo; xhi = axes .xhi; ylo = axes .ylo; yhi = axes .yhi }
+  pub bounds-ranged : Ranged (bounds b)
+  bounds-ranged = subst Ranged (sym e) (solid-ranged s right)
 
   -- ---- bounded
 
@@ -106,8 +87,8 @@ module _ (s : Primitive) (right : solidRight s ≡ true) (b : BoxShape) (e : bou
     -- within the box as its edges say it
     boxed-is : (a c : ℕ) → holds (bounds b) (spot (p .z) a c) ≡ ((leb (raised Frame (b .xlo)) a && leb a (raised Frame (b .xhi))) && ((leb (raised Frame (b .ylo)) c && leb c (raised Frame (b .yhi))) && within (bounds b .z) (p .z)))
     boxed-is a c =
-        by-axis (ap₂ _&&_ (from-place (b .xlo) (axes .xlo) a) (to-place (b .xhi) (axes .xhi) a))
-        (ap₂ _&&_ (from-place (b .ylo) (axes .ylo) c) (to-place (b .yhi) (axes .yhi) c)) refl
+        by-axis (ap₂ _&&_ (from-place (b .xlo) (bounds-ranged .xlo) a) (to-place (b .xhi) (bounds-ranged .xhi) a))
+        (ap₂ _&&_ (from-place (b .ylo) (bounds-ranged .ylo) c) (to-place (b .yhi) (bounds-ranged .yhi) c)) refl
 
     module _ (a c : ℕ) (inside : test a c ≡ true) where
       abbrev x : Bool

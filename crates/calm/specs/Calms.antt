@@ -7,6 +7,7 @@ use Rattle.rules.specs.declared.Axis.the-variants.{Frame}
 use Rattle.rules.specs.declared.BoxShape.{BoxShape}
 use Rattle.rules.specs.declared.Point.{Point}
 use Rattle.rules.specs.declared.Primitive.{Primitive}
+use Rattle.rules.specs.Boxes.{Box}
 use Rattle.rules.specs.Inside.{insideSolid}
 use Rattle.rules.specs.ListWords.{raised}
 use Rattle.rules.specs.Ranges.{within, columns}
@@ -48,11 +49,11 @@ pub record Narrowed (e : Edges) (x v : ℕ) (r s : Rect) : Type 0 where
   pub same : (test : ℕ → ℕ → Bool) → Bounded test e x v → Same test x v s
 
 -- the columns and codes of a box are in range
-pub record Ranged (b : BoxShape) : Type 0 where
-  pub xlo : within columns (b .xlo) ≡ true
-  pub xhi : within columns (b .xhi) ≡ true
-  pub ylo : within columns (b .ylo) ≡ true
-  pub yhi : within columns (b .yhi) ≡ true
+pub record Ranged (b : Box) : Type 0 where
+  pub xlo : within columns (b .x .lo) ≡ true
+  pub xhi : within columns (b .x .hi) ≡ true
+  pub ylo : within columns (b .y .lo) ≡ true
+  pub yhi : within columns (b .y .hi) ≡ true
 
 -- the edges of a box in a frame
 abbrev pub edgesOf : BoxShape → ℤ → ℕ → Edges

@@ -7,6 +7,7 @@ ghost use mathlib.Core.Bool.{true};
 ghost use mathlib.Core.Path.{_≡_};
 ghost use Rattle.rules.specs.declared.Axis.the-variants.{Frame};
 ghost use Rattle.rules.specs.Boxes.{holds, everywhere};
+ghost use Rattle.rules.specs.Inside.{bounds};
 ghost use Rattle.rules.specs.ListWords.{raised};
 ghost use Rattle.laws.specs.Sound.{solidRight};
 ghost use Rattle.span.specs.Along.{places};
@@ -72,7 +73,7 @@ fn narrow(e: Edges, x: u64, v: u64, r: Rect) -> Rect
 
 // The edges of a box in a frame.
 fn edges_of(b: BoxShape, z: i32, margin: u64) -> Edges
-    requires { ⌜ Ranged b ⌝ }
+    requires { ⌜ Ranged (bounds b) ⌝ }
     ensures { λ r. ⌜ r ≡ edgesOf b z margin ⌝ }
 {
     Edges {

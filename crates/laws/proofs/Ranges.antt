@@ -1,4 +1,4 @@
--- What the rules of a wedge, a drum and a triangle, and the range of points, say of each number. Assumes nothing.
+-- What the rules of a box, a wedge, a drum and a triangle, and the range of points, say of each number. Assumes nothing.
 use Prim.Native.Nat.{ℕ, zero, suc, _+_, _≤_}
 use native.Mathlib.Omega.{arith}
 use mathlib.Core.Bool.{Bool, true, false, not, _&&_}
@@ -6,8 +6,10 @@ use mathlib.Core.Path.{_≡_}
 use borrow.Author.Tests.{leb-true, le-leb, not-true}
 use lib.Dec.{leb}
 use lib.IntN.{ℤ, pos, negsuc, _+ℤ_, _-ℤ_}
+use lib.Signed.{leZ}
 use Rattle.ground.specs.Tests.{eqZ}
 use Rattle.ground.proofs.Branches.{false-true, and-left, and-right}
+use Rattle.rules.specs.declared.BoxShape.{BoxShape}
 use Rattle.rules.specs.declared.Point.{Point}
 use Rattle.rules.specs.declared.WedgeShape.{WedgeShape}
 use Rattle.rules.specs.declared.DrumShape.{DrumShape}
@@ -35,7 +37,29 @@ module _ (p : Point) (h : holds everywhere p ≡ true) where
   pub z-in : within frames (p .z) ≡ true
   z-in = third (within columns (p .x)) (within codes (p .y)) (within frames (p .z)) h
 
+pub ends-in : (s : Span) (lo hi : ℤ) → endsRight s lo hi ≡ true → (within s lo ≡ true) × (within s hi ≡ true)
+ends-in s lo hi h = (and-left (within s lo) (within s hi && leZ lo hi) h, second (within s lo) (within s hi) (leZ lo hi) h)
+
+module _ (b : BoxShape) (h : boxRight b ≡ true) where
+  abbrev x-right : Bool
+  x-right = endsRight columns (b .xlo) (b .xhi)
+
+  abbrev y-right : Bool
+  y-right = endsRight codes (b .ylo) (b .yhi)
+
+  abbrev z-right : Bool
+  z-right = endsRight frames (b .zlo) (b .zhi)
+
+  pub box-columns-in : (within columns (b .xlo) ≡ true) × (within columns (b .xhi) ≡ true)
+  box-columns-in = ends-in columns (b .xlo) (b .xhi) (and-left x-right (y-right && z-right) h)
+
+  pub box-codes-in : (within codes (b .ylo) ≡ true) × (within codes (b .yhi) ≡ true)
+  box-codes-in = ends-in codes (b .ylo) (b .yhi) (second x-right y-right z-right h)
+
 module _ (w : WedgeShape) (h : wedgeRight w ≡ true) where
+  pub bounds-right : boxRight (w .bounds) ≡ true
+  bounds-right = and-left (boxRight (w .bounds)) (slopesRight (w .a) (w .b) (w .c)) h
+
   slopes-in : slopesRight (w .a) (w .b) (w .c) ≡ true
   slopes-in = and-right (boxRight (w .bounds)) (slopesRight (w .a) (w .b) (w .c)) h
 
@@ -67,10 +91,10 @@ module _ (n : ℕ) where
   centre-in c (negsuc k) h = false-true h
 
 module _ (d : DrumShape) (h : drumRight d ≡ true) where
-  x-reach : reachRight columns (d .cx) (d .rx) ≡ true
+  pub x-reach : reachRight columns (d .cx) (d .rx) ≡ true
   x-reach = and-left (reachRight columns (d .cx) (d .rx)) (reachRight codes (d .cy) (d .ry) && endsRight frames (d .zlo) (d .zhi)) h
 
-  y-reach : reachRight codes (d .cy) (d .ry) ≡ true
+  pub y-reach : reachRight codes (d .cy) (d .ry) ≡ true
   y-reach = second (reachRight columns (d .cx) (d .rx)) (reachRight codes (d .cy) (d .ry)) (endsRight frames (d .zlo) (d .zhi)) h
 
   pub cx-in : within columns (d .cx) ≡ true

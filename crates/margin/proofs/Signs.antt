@@ -3,9 +3,9 @@ use Prim.Native.Nat.{ℕ, _+_, _*_, _≤_}
 use native.Mathlib.Nat.{le-trans, mul-le-mul, mul-le-mul-right}
 use native.Mathlib.Omega.{arith}
 use mathlib.Core.Path.{_≡_, sym, ap, subst, _∙_}
-use lib.IntN.{ℤ, pos, negℤ, natAbs, _+ℤ_, _-ℤ_, _*ℤ_, +ℤ-comm, +ℤ-idl, negℤ-negℤ}
+use lib.IntN.{ℤ, pos, natAbs, _+ℤ_, _-ℤ_, _*ℤ_, +ℤ-idl}
 use lib.Signed.{leZ}
-use Rattle.ground.proofs.Differences.{pos-parts, parts, add-parts, sub-parts, same-parts, le-parts, abs-parts, le-over}
+use Rattle.ground.proofs.Differences.{pos-parts, parts, add-parts, sub-parts, same-parts, le-parts, abs-parts, le-back}
 use Rattle.ground.proofs.Num.{abs-add, abs-mul}
 use Rattle.ground.proofs.Order.{leb-same}
 use Rattle.margin.specs.Edges.{Slack}
@@ -50,8 +50,7 @@ over-change P Q P′ Q′ K =
 -- ---- a sum held against K is what it is over K held against 0
 
 over-most : (S K : ℤ) → leZ S K ≡ leZ (S -ℤ K) (pos 0)
-over-most S K =
-    sym (ap (λ (z : ℤ). leZ z (pos 0)) (+ℤ-comm S (negℤ K)) ∙ le-over (negℤ K) S (pos 0) ∙ ap (leZ S) (+ℤ-idl (negℤ (negℤ K)) ∙ negℤ-negℤ K))
+over-most S K = sym (le-back S K (pos 0) ∙ ap (leZ S) (+ℤ-idl K))
 
 pub sum-kept : {P Q P′ Q′ : ℤ} {m u v : ℕ} (K : ℤ) → Moves P P′ m u → Moves Q Q′ m v → Slack (P +ℤ Q -ℤ K) (u + v) m → leZ (P′ +ℤ Q′) K ≡ leZ (P +ℤ Q) K
 sum-kept {P} {Q} {P′} {Q′} {m} {u} {v} K p q slack =

@@ -16,10 +16,10 @@ use Rattle.rules.specs.declared.Primitive.{Primitive}
 use Rattle.rules.specs.declared.TriangleShape.{TriangleShape}
 use Rattle.rules.specs.declared.WedgeShape.{WedgeShape}
 use Rattle.rules.specs.Boxes.{holds}
-use Rattle.rules.specs.Fields.{boxRight, endsRight, triangleRight}
+use Rattle.rules.specs.Fields.{triangleRight}
 use Rattle.rules.specs.Inside.{bounds, halfSpace, oneSided, insideWedge, insideTriangle, insideSolid}
 use Rattle.rules.specs.Products.{boxOf}
-use Rattle.rules.specs.Ranges.{within, columns, codes, frames}
+use Rattle.rules.specs.Ranges.{within}
 use Rattle.rules.specs.Sides.{side, twiceArea}
 use Rattle.rules.proofs.Rounds.{sides-add, corners-exchanged}
 use Rattle.laws.specs.Sound.{solidRight}
@@ -44,11 +44,6 @@ out-of-reach s p right h A =
 -- ---- a box: its columns and frames let its codes through
 
 module _ (b : BoxShape) where
-  pub box-codes-in : boxRight b ≡ true → (within columns (b .ylo) ≡ true) × (within columns (b .yhi) ≡ true)
-  box-codes-in h =
-      let ends = second (endsRight columns (b .xlo) (b .xhi)) (endsRight codes (b .ylo) (b .yhi)) (endsRight frames (b .zlo) (b .zhi)) h in
-      (and-left (within codes (b .ylo)) (within codes (b .yhi) && leZ (b .ylo) (b .yhi)) ends, second (within codes (b .ylo)) (within codes (b .yhi)) (leZ (b .ylo) (b .yhi)) ends)
-
   pub box-meets : (p : Point) {s : Stretch} → beside (bounds b) p ≡ true → Along (λ v. within (bounds b .y) (value v)) s → Along (λ v. holds (bounds b) (codePoint p v)) s
   box-meets p h A =
       as-along (λ v l. middle (within (bounds b .x) (p .x)) (within (bounds b .y) (value v)) (within (bounds b .z) (p .z))) (let-through (λ v. within (bounds b .y) (value v)) (beside (bounds b) p) h A)

@@ -52,43 +52,34 @@ values-apart lo hi l = omega (arith, abs-parts (sub-parts (value-parts hi) (valu
 abbrev values : Stretch → Span
 values s = record { lo = value (s .lo); hi = value (s .hi) }
 
-fill-values : (a b : ℕ) → fill (value a) (value b) ≡ values (fillPlaces a b)
-fill-values a b =
-    ap₂ (λ (s t : Bool). if s then record { lo = value a +ℤ pos 1; hi = value b } else (if t then record { lo = value b; hi = value a -ℤ pos 1 } else record { lo = value b; hi = value b }))
-    (lt-values a b) (lt-values b a)
-    ∙ go (ltb a b) (ltb b a) (ltb-true b a)
-  where
-    go : (s t : Bool) → (t ≡ true → b < a)
-        → (if s then record { lo = value a +ℤ pos 1; hi = value b } else (if t then record { lo = value b; hi = value a -ℤ pos 1 } else record { lo = value b; hi = value b }))
-        ≡ values (if s then record { lo = a + 1; hi = b } else (if t then record { lo = b; hi = a - 1 } else record { lo = b; hi = b }))
-    go true t h = λ i. record { lo = value-on a 1 i; hi = value b }
-    go false true h = λ i. record { lo = value b; hi = value-back a (omega (arith, h refl)) i }
-    go false false h = refl
+module _ (a b : ℕ) where
+  -- what is so of each of the three, where it is the one, is so of what is filled
+  by-slope : (P : Bool → Bool → Stretch → Type 0) → (a < b → P true (ltb b a) (record { lo = a + 1; hi = b })) → (b < a → P false true (record { lo = b; hi = a - 1 }))
+      → P false false (record { lo = b; hi = b }) → P (ltb a b) (ltb b a) (fillPlaces a b)
+  by-slope P up down level = go (ltb a b) (ltb b a) (ltb-true a b) (ltb-true b a) up
+    where
+      go : (s t : Bool) → (s ≡ true → a < b) → (t ≡ true → b < a) → (a < b → P true t (record { lo = a + 1; hi = b }))
+          → P s t (if s then record { lo = a + 1; hi = b } else (if t then record { lo = b; hi = a - 1 } else record { lo = b; hi = b }))
+      go true t f g rising = rising (f refl)
+      go false true f g rising = down (g refl)
+      go false false f g rising = level
 
--- it is not empty, and goes no higher than the two
-pub fill-rises : (a b : ℕ) → fillPlaces a b .lo ≤ fillPlaces a b .hi
-fill-rises a b = go (ltb a b) (ltb b a) (ltb-true a b) (ltb-true b a)
-  where
-    go : (s t : Bool) → (s ≡ true → a < b) → (t ≡ true → b < a)
-        → let r : Stretch = if s then record { lo = a + 1; hi = b } else (if t then record { lo = b; hi = a - 1 } else record { lo = b; hi = b }) in r .lo ≤ r .hi
-    go true t f g = omega (arith, f refl)
-    go false true f g = omega (arith, g refl)
-    go false false f g = omega arith
+  fill-values : fill (value a) (value b) ≡ values (fillPlaces a b)
+  fill-values =
+      ap₂ slopes (lt-values a b) (lt-values b a)
+      ∙ by-slope (λ s t r. slopes s t ≡ values r) (λ l i. record { lo = value-on a 1 i; hi = value b }) (λ l i. record { lo = value b; hi = value-back a (omega arith) i }) refl
+    where
+      slopes : Bool → Bool → Span
+      slopes s t = if s then record { lo = value a +ℤ pos 1; hi = value b } else (if t then record { lo = value b; hi = value a -ℤ pos 1 } else record { lo = value b; hi = value b })
 
-pub fill-below : (a b n : ℕ) → a < n → b < n → fillPlaces a b .hi < n
-fill-below a b n h k = go (ltb a b) (ltb b a)
-  where
-    go : (s t : Bool) → let r : Stretch = if s then record { lo = a + 1; hi = b } else (if t then record { lo = b; hi = a - 1 } else record { lo = b; hi = b }) in r .hi < n
-    go true t = k
-    go false true = omega arith
-    go false false = k
+  -- it is not empty, and goes no higher than the two
+  pub fill-rises : fillPlaces a b .lo ≤ fillPlaces a b .hi
+  fill-rises = by-slope (λ s t r. r .lo ≤ r .hi) (λ l. omega arith) (λ l. omega arith) (omega arith)
+
+  pub fill-below : (n : ℕ) → a < n → b < n → fillPlaces a b .hi < n
+  fill-below n h k = by-slope (λ s t r. r .hi < n) (λ l. k) (λ l. omega arith) k
 
 -- ---- its codes
-
-any-as : (f g : ℕ → Bool) (start n : ℕ) → ((i : ℕ) → f i ≡ g i) → anyOf f (from start n) ≡ anyOf g (from start n)
-unfolding anyOf from
-any-as f g start zero h = refl
-any-as f g start (suc n) h = ap₂ _||_ (h start) (any-as f g (suc start) n h)
 
 any-shifted : (g : ℕ → Bool) (lo start n : ℕ) → anyOf (λ i. g (lo + i)) (from start n) ≡ anyOf g (from (lo + start) n)
 unfolding anyOf from
@@ -104,7 +95,7 @@ codes-any test s l =
     let many = suc (natAbs (value hi -ℤ value lo)) in
     let n : many ≡ (hi + 1) - lo = omega (arith, values-apart lo hi l) in
     any-mapped test (λ i. value lo +ℤ pos i) (below many)
-    ∙ any-as (λ i. test (value lo +ℤ pos i)) (λ i. test (value (lo + i))) 0 many (λ i. ap test (value-on lo i))
+    ∙ (λ j. anyOf (λ i. test (value-on lo i j)) (below many))
     ∙ any-shifted (λ v. test (value v)) lo 0 many
     ∙ (λ i. anyOf (λ v. test (value v)) (from (add-zero lo i) (n i)))
 

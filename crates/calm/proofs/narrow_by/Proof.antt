@@ -14,7 +14,7 @@ use Rattle.span.specs.Along.{places}
 use Rattle.span.proofs.Order.{place-below}
 use Rattle.calm.specs.declared.Edges.{Edges}
 use Rattle.calm.specs.Calms.{edgesOf, Narrowed}
-use Rattle.calm.proofs.Bounding.{box-ranged, solid-bounded}
+use Rattle.calm.proofs.Bounding.{bounds-ranged, solid-bounded}
 use Rattle.calm.proofs.narrow_by.Statement.{statement}
 use Rattle.calm.proofs.narrow_by.Tie as tie
 
@@ -35,7 +35,7 @@ margin-requires c κs = search needs
 edges-of-requires : tie.Need-edges-of-requires
 edges-of-requires c κs =
     let b = c .before .before in
-    box-ranged (b .before .args .s) (b .before .pre .0) (b .box-of .result) (b .box-of .ensures)
+    bounds-ranged (b .before .args .s) (b .before .pre .0) (b .box-of .result) (b .box-of .ensures)
 
 place-of-requires : tie.Need-place-of-requires
 place-of-requires c κs = let s = c .before .before .before .before .before in reread w32 (within columns) (fits s .x) (x-in (s .args .p) (s .pre .1 .0))
@@ -67,7 +67,7 @@ narrow-requires : tie.Need-narrow-requires
 narrow-requires c κs =
     let d = c .before .before .before .before in
     let s = start d in
-    let R = box-ranged (s .args .s) (s .pre .0) (boxed d .box-of .result) (boxed d .box-of .ensures) in
+    let R = bounds-ranged (s .args .s) (s .pre .0) (boxed d .box-of .result) (boxed d .box-of .ensures) in
     let yhi : d .edges-of .result .yhi < places = subst (λ (e : Edges). e .yhi < places) (sym (edges-are d)) (place-below (boxed d .box-of .result .yhi) (R .yhi)) in
     let near : d .edges-of .result .margin ≤ places = subst (λ (e : Edges). e .margin ≤ places) (sym (edges-are d)) (d .before .before .margin .ensures .1) in
     (rw (x-is d (c .before .before .place-of .ensures .0), y-is d (c .place-of2 .ensures .0)) (s .pre .1 .1), ((c .before .before .place-of .ensures .1, (c .place-of2 .ensures .1, yhi)), near))

@@ -10,38 +10,32 @@ use lib.Bits.{bitOr}
 use lib.ListN.{getD}
 use Rattle.ground.specs.Tests.{if_then_else_}
 use Rattle.span.specs.Along.{between}
-use Rattle.level.specs.Levels.{stretchAt, markAt, setAt, Steady}
+use Rattle.level.specs.Levels.{stretchAt, markAt, setAt, Steady, Levels}
 use Rattle.level.proofs.level.Statement.{statement}
 use Rattle.level.proofs.level.Tie as tie
 
--- the first i entries are done
-record Inv (marks los his : List ℕ) (v from set floor i : ℕ) : Type 0 where
-  pub so-far : set ≡ setAt marks los his i v
-  pub low : from ≤ floor
-  pub under : floor ≤ v
-  pub same : (w : ℕ) → floor ≤ w → w ≤ v → setAt marks los his i w ≡ setAt marks los his i v
-
-next : {marks los his : List ℕ} {v from set floor i up : ℕ} → Inv marks los his v from set floor i → Steady (between (stretchAt los his i)) v floor up
-    → Inv marks los his v from (bitOr set (markAt marks los his i v)) up (i + 1)
+-- one entry more
+next : {marks los his : List ℕ} {v from set floor i up : ℕ} → Levels marks los his i v from (record { set = set; floor = floor })
+    → Steady (between (stretchAt los his i)) v floor up → Levels marks los his (i + 1) v from (record { set = bitOr set (markAt marks los his i v); floor = up })
 unfolding setAt
-next {marks} {los} {his} {v} {from} {set} {floor} {i} {up} I S =
-    subst (Inv marks los his v from (bitOr set (markAt marks los his i v)) up) (sym (add-one i))
+next {marks} {los} {his} {v} {from} {set} {floor} {i} {up} L S =
+    subst (λ (n : ℕ). Levels marks los his n v from (record { set = bitOr set (markAt marks los his i v); floor = up })) (sym (add-one i))
     (record {
-      so-far = ap (λ (n : ℕ). bitOr n (markAt marks los his i v)) (I .so-far);
-      low = le-trans (I .low) (S .low);
+      set = ap (λ (n : ℕ). bitOr n (markAt marks los his i v)) (L .set);
+      low = le-trans (L .low) (S .low);
       under = S .under;
-      same = λ w a b. ap₂ bitOr (I .same w (le-trans (S .low) a) b) (ap (λ (t : Bool). if t then getD marks i 0 else 0) (S .same w a b));
+      same = λ w a b. ap₂ bitOr (L .same w (le-trans (S .low) a) b) (ap (λ (t : Bool). if t then getD marks i 0 else 0) (S .same w a b));
     })
 
 abbrev Inv-loop : tie.InvT-loop
-Inv-loop marks los his n v from set₀ floor₀ i₀ set floor i = (i ≤ n) × Inv marks los his v from set floor i
+Inv-loop marks los his n v from set₀ floor₀ i₀ set floor i = (i ≤ n) × Levels marks los his i v from (record { set = set; floor = floor })
 
 abbrev μ-loop : tie.MeasureT-loop
 μ-loop marks los his n v from set₀ floor₀ i₀ set floor i = n - i
 
 loop-holds : tie.Need-loop-holds Inv-loop μ-loop
 unfolding setAt
-loop-holds c = (omega arith, record { so-far = refl; low = omega arith; under = c .before .before .before .pre .0; same = λ w a b. refl })
+loop-holds c = (omega arith, record { set = refl; low = omega arith; under = c .before .before .before .pre .0; same = λ w a b. refl })
 
 mul-lo : tie.Need-mul-lo Inv-loop μ-loop
 mul-lo c = search needs
@@ -85,8 +79,7 @@ returns c =
     let l = c .before .loop in
     let s = c .before .before .before .before .before in
     let done : l .i ≡ s .args .n = omega arith in
-    let I = subst (Inv (s .args .marks .now) (s .args .los .now) (s .args .his .now) (s .args .v) (s .args .from) (l .set) (l .floor)) done (l .inv .1) in
-    record { set = I .so-far; low = I .low; under = I .under; same = I .same }
+    subst (λ (n : ℕ). Levels (s .args .marks .now) (s .args .los .now) (s .args .his .now) n (s .args .v) (s .args .from) (record { set = l .set; floor = l .floor })) done (l .inv .1)
 
 pub level-spec : {M : Type 1} → statement M
 level-spec =

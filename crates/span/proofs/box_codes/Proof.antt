@@ -6,8 +6,9 @@ use mir.Val.{SFits}
 use Rattle.ground.proofs.Signed.{reread}
 use Rattle.rules.specs.declared.Primitive.the-variants as primitive
 use Rattle.rules.specs.Ranges.{within, columns}
+use Rattle.laws.proofs.Ranges.{box-codes-in}
 use Rattle.span.proofs.Along.{axis-passed}
-use Rattle.span.proofs.Shapes.{box-codes-in, out-of-reach, box-meets}
+use Rattle.span.proofs.Shapes.{out-of-reach, box-meets}
 use Rattle.span.proofs.box_codes.Statement.{statement}
 use Rattle.span.proofs.box_codes.Tie as tie
 

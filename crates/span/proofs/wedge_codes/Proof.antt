@@ -7,17 +7,16 @@ use lib.Signed.{leZ, natAbs-le}
 use mir.Syntax.{w32, w64}
 use mir.Val.{SFits}
 use mir.ValLaws.{toZ-ofZ}
-use Rattle.ground.proofs.Branches.{and-left}
 use Rattle.ground.proofs.Signed.{reread, read}
 use Rattle.rules.specs.declared.Primitive.the-variants as primitive
-use Rattle.rules.specs.Fields.{slopes, boxRight, slopesRight}
+use Rattle.rules.specs.Fields.{slopes}
 use Rattle.rules.specs.Inside.{insideWedge}
 use Rattle.rules.specs.Ranges.{within, columns, frames}
-use Rattle.laws.proofs.Ranges.{x-in, z-in, a-in, b-in, c-in}
+use Rattle.laws.proofs.Ranges.{x-in, z-in, box-codes-in, bounds-right, a-in, b-in, c-in}
 use Rattle.laws.proofs.Spans.{even-span}
 use Rattle.span.specs.Along.{value, Along, codePoint, planeLeft}
 use Rattle.span.proofs.Along.{as-along, axis-passed}
-use Rattle.span.proofs.Shapes.{box-codes-in, out-of-reach, wedge-meets}
+use Rattle.span.proofs.Shapes.{out-of-reach, wedge-meets}
 use Rattle.span.proofs.wedge_codes.Statement.{statement}
 use Rattle.span.proofs.wedge_codes.Tie as tie
 
@@ -60,7 +59,7 @@ axis-requires : tie.Need-axis-requires
 axis-requires c κs =
     let s = start (c .before .before) in
     let w = s .args .w in
-    let h = box-codes-in (w .bounds) (and-left (boxRight (w .bounds)) (slopesRight (w .a) (w .b) (w .c)) (s .pre .0)) in
+    let h = box-codes-in (w .bounds) (bounds-right w (s .pre .0)) in
     (reread w32 (within columns) (fits s .lo) (h .0), reread w32 (within columns) (fits s .hi) (h .1))
 
 plane-left-requires : tie.Need-plane-left-requires
