@@ -220,7 +220,7 @@ static void aim_at(const struct table *table, int64_t spot[AXES])
 
 /* Windows. */
 
-static void to_bounds(struct lampholly_window window, int32_t bound[BOUNDS])
+void to_bounds(struct lampholly_window window, int32_t bound[BOUNDS])
 {
     const int32_t in_order[BOUNDS] = {window.xlo, window.xhi, window.ylo, window.yhi, window.zlo, window.zhi};
     for (int i = 0; i < BOUNDS; i++)

@@ -18,6 +18,7 @@ struct result {
     int32_t table[LAMPHOLLY_TABLE_WORDS];
     uint8_t text[LAMPHOLLY_TEXT_BYTES];
     uint32_t triples[LAMPHOLLY_TRIPLE_WORDS];
+    int32_t picture[LAMPHOLLY_PICTURE_WORDS];
 };
 
 typedef struct lampholly_answer check_call(const int32_t *, size_t);
@@ -27,6 +28,8 @@ typedef struct lampholly_answer list_call(const int32_t *, size_t, const uint64_
                                           const int16_t *, size_t, int32_t, int32_t);
 typedef struct lampholly_answer screen_call(const int32_t *, size_t, const uint64_t *, size_t,
                                             const int16_t *, size_t, size_t, int32_t, int32_t, uint32_t *, size_t);
+typedef struct lampholly_answer picture_call(const int32_t *, size_t, const uint64_t *, size_t,
+                                             struct lampholly_rectangle, int32_t *, size_t);
 typedef struct lampholly_answer read_call(const uint8_t *, size_t, int32_t *, size_t);
 typedef struct lampholly_answer write_call(const int32_t *, size_t, uint8_t *, size_t);
 
@@ -40,6 +43,7 @@ struct rival {
     tree_call *tree;
     list_call *list;
     screen_call *screen;
+    picture_call *picture;
     read_call *read;
     write_call *write;
 };
@@ -92,6 +96,10 @@ static const struct rival screen_searchers[MOST_RIVALS] = {
     {.name = "mask of primitives", .own_codes_only = 1, .screen = peer_mask_screen},
     {.name = "column by column", .screen = peer_screen_columns},
 };
+static const struct rival drawers[MOST_RIVALS] = {
+    {.name = "ours", .picture = lampholly_list_waterfall},
+    {.name = "place by place", .picture = peer_waterfall},
+};
 static const struct rival readers[MOST_RIVALS] = {
     {.name = "ours", .read = lampholly_read_text},
     {.name = "once through", .read = peer_read_text},
@@ -137,6 +145,9 @@ static const struct work works[] = {
     {"screen, 3 products: 500 frames of 10", build_narrow_screen, FEW | CLEAR, screen_searchers},
     {"screen, 100 products: 500 frames of 1,000", build_wide_screen, MANY | CLEAR, screen_searchers},
     {"screen, 100 products: 500 frames of 10", build_narrow_screen, MANY | CLEAR, screen_searchers},
+    {"waterfall, 3 products: 1,000 frames", build_picture, FEW_FRAMES, drawers},
+    {"waterfall, 3 products: 2,097,152 frames", build_picture, EVERY_FRAME, drawers},
+    {"waterfall, 3 products: from 1,000 to 2,097,152", build_picture, FEW_TO_ALL_FRAMES, drawers},
     {"text: reading 127 rows", build_text, MIXED, readers},
     {"text: writing 127 rows", build_text, MIXED, writers},
     {"check: 127 rows", build_text, MIXED, checkers},
@@ -185,6 +196,13 @@ static void search_screen(const struct rival *rival, const struct load *load, st
                               load->frames, load->first, 1 - (int32_t)load->frames, result->triples, LAMPHOLLY_TRIPLE_WORDS));
 }
 
+static void draw_picture(const struct rival *rival, const struct load *load, struct result *result)
+{
+    const struct table *t = &load->zone[0];
+    add(result, rival->picture(t->word, t->words, load->list, load->list_words, load->rectangle, result->picture,
+                               LAMPHOLLY_PICTURE_WORDS));
+}
+
 static void run(const struct rival *rival, const struct load *load, struct result *result)
 {
     const struct table *t = &load->zone[0];
@@ -199,6 +217,8 @@ static void run(const struct rival *rival, const struct load *load, struct resul
         add(result, rival->write(t->word, t->words, result->text, LAMPHOLLY_TEXT_BYTES));
     else if (rival->screen != NULL)
         search_screen(rival, load, result);
+    else if (rival->picture != NULL)
+        draw_picture(rival, load, result);
     else
         search_frames(rival, load, result);
 }

@@ -19,8 +19,9 @@ struct load {
     size_t frames, samples;
     int32_t first;
     int16_t code[MOST_FRAMES * SCREEN_COLUMNS];
+    struct lampholly_rectangle rectangle;
     struct text text;
-    double work; /* choices, samples or rows */
+    double work; /* choices, samples, places or rows */
 };
 
 /* Half of the work is built in the same manner as the whole. */
@@ -43,5 +44,9 @@ enum { FEW = 0, MANY = 1, EYE = 8, ANY_ZONE = MANY | EYE }; /* a zone's bits, ap
 enum { CLEAR = 0, INSIDE = 2, TOGGLING = 4, QUIET = 16, QUIET_INSIDE = QUIET | INSIDE };
 enum { MIXED, TRIANGLES };
 build build_frame, build_screen, build_wide_screen, build_narrow_screen, build_text;
+
+/* bench_pictures.c: pictures to draw. */
+enum { FEW_FRAMES, EVERY_FRAME, FEW_TO_ALL_FRAMES };
+build build_picture;
 
 #endif

@@ -13,13 +13,14 @@ struct loan {
     void *at;
 };
 
-static struct loan table, list, codes, text, triples;
+static struct loan table, list, codes, text, triples, picture;
 
 /* What plain writes into; filled with chance first, so that each byte that must stay is seen to stay. */
 static int32_t wanted_table[TABLE_ROOM];
 static uint64_t wanted_list[LIST_ROOM];
 static uint8_t wanted_text[TEXT_ROOM];
 static uint32_t wanted_triples[TRIPLES_ROOM];
+static int32_t wanted_picture[PICTURE_ROOM];
 
 static uint64_t seed_now, case_now;
 static const struct question *asked;
@@ -49,6 +50,7 @@ void open_calls(uint64_t seed)
     open_lent(&codes.lent, SCREEN_ROOM * sizeof(int16_t));
     open_lent(&text.lent, sizeof wanted_text);
     open_lent(&triples.lent, sizeof wanted_triples);
+    open_lent(&picture.lent, sizeof wanted_picture);
 }
 
 void begin_case(uint64_t number)
@@ -94,12 +96,20 @@ static void lend_all(const struct question *q)
         lend_to_read(&text, q->text ? q->text->byte : NULL, q->text ? q->text->bytes : 0);
     lend_codes(q->frame, q->screen);
     lend_to_write(&triples, wanted_triples, q->call == LIST_SEARCH_FRAMES ? q->room * sizeof wanted_triples[0] : 0);
+    lend_to_write(&picture, wanted_picture, q->call == LIST_WATERFALL ? q->room * sizeof wanted_picture[0] : 0);
 }
 
 static struct plain_window as_plain(struct lampholly_window w)
 {
     struct plain_window window = {w.xlo, w.xhi, w.ylo, w.yhi, w.zlo, w.zhi};
     return window;
+}
+
+static struct plain_answer ask_plain_waterfall(const struct question *q)
+{
+    struct plain_rectangle rectangle = {q->rectangle.xlo, q->rectangle.xhi, q->rectangle.ylo, q->rectangle.yhi};
+    return plain_list_waterfall(q->table->word, q->table->words, q->list->word, q->list->words, rectangle,
+                                wanted_picture, q->room);
 }
 
 static struct plain_answer ask_plain(const struct question *q)
@@ -120,6 +130,7 @@ static struct plain_answer ask_plain(const struct question *q)
     case LIST_SEARCH_FRAMES:
         return plain_list_search_frames(t->word, t->words, l->word, l->words, s->code, s->samples, s->frames,
                                         s->first, s->number, wanted_triples, q->room);
+    case LIST_WATERFALL: return ask_plain_waterfall(q);
     case READ_TEXT: return plain_read_text(q->text->byte, q->text->bytes, wanted_table, q->room);
     default: return plain_write_text(t->word, t->words, wanted_text, q->room);
     }
@@ -143,6 +154,8 @@ static struct lampholly_answer ask_library(const struct question *q)
     case LIST_SEARCH_FRAMES:
         return lampholly_list_search_frames(table.at, t->words, list.at, l->words, codes.at, s->samples, s->frames,
                                             s->first, s->number, triples.at, q->room);
+    case LIST_WATERFALL:
+        return lampholly_list_waterfall(table.at, t->words, list.at, l->words, q->rectangle, picture.at, q->room);
     case READ_TEXT: return lampholly_read_text(text.at, q->text->bytes, table.at, q->room);
     default: return lampholly_write_text(table.at, t->words, text.at, q->room);
     }
@@ -161,6 +174,8 @@ static const char *fault(struct plain_answer want, struct lampholly_answer got)
         return "the codes' buffer differs";
     if (!holds(&triples.lent, triples.content))
         return "the triples' buffer differs";
+    if (!holds(&picture.lent, picture.content))
+        return "the picture's buffer differs";
     return holds(&text.lent, text.content) ? NULL : "the text's buffer differs";
 }
 
@@ -211,5 +226,7 @@ void ask(struct question question)
     }
     if (question.call == LIST_SEARCH_FRAMES && want.refusal == 0)
         ask_each_frame(&question);
+    if (question.call == LIST_WATERFALL && want.refusal == 0)
+        tally_picture(&question, wanted_picture);
     tally(&question, want);
 }

@@ -1,11 +1,11 @@
-/* The differential test: plain against the library over all nine calls. Use: differ SEED COUNT [FIRST CASE] */
+/* The differential test: plain against the library over all ten calls. Use: differ SEED COUNT [FIRST CASE] */
 #include <stdio.h>
 #include <stdlib.h>
 
 #include "differ.h"
 
-/* From so many cases on, every answer and refusal of every call, all that a triple can tell and all that can be met of
-   triangles and of edges must have been seen. */
+/* From so many cases on, every answer and refusal of every call, all that a triple and a place can tell and all that can be met
+   of triangles and of edges must have been seen. */
 #define MANY_CASES 5000
 
 /* Samples times words of the list: what plain can bear of one search. */
@@ -111,6 +111,42 @@ static void ask_screens(void)
     }
 }
 
+static int is_in_list(const struct table *table, struct point point)
+{
+    const int32_t *at = point.at;
+    struct plain_answer answer = plain_list_point(table->word, table->words, list.word, list.words, at[X], at[Y], at[Z]);
+    return answer.refusal == 0 && answer.value == 1;
+}
+
+/* One in the list, if a few turns find it. */
+static struct point any_spot(const struct table *table)
+{
+    struct point spot = any_point(table, window_of(&list));
+    for (int turn = 0; turn < 8 && !is_in_list(table, spot); turn++)
+        spot = any_point(table, window_of(&list));
+    return spot;
+}
+
+/* By the list that the case has, but with other frames. */
+static void ask_pictures(int64_t tests)
+{
+    struct lampholly_window window = window_of(&list);
+    struct question draw = {.call = LIST_WATERFALL, .list = &list};
+    draw.table = one_in(3) ? &lent_zone : &zone;
+    for (int turn = 0; turn < 2; turn++) {
+        restore_frames(&list, window);
+        struct point spot = any_spot(draw.table);
+        int64_t places = 1;
+        if (one_in(4) && is_in_list(draw.table, spot))
+            keep_old_frames(&list, window, spot);
+        else
+            places = keep_some_frames(&list, draw.table, window, spot, tests);
+        draw.rectangle = any_rectangle(window, spot, places);
+        draw.room = any_room(places_in(draw.rectangle), PICTURE_ROOM);
+        ask(draw);
+    }
+}
+
 static void ask_write_text(void)
 {
     struct plain_answer written = plain_write_text(lent_zone.word, lent_zone.words, text.byte, TEXT_ROOM);
@@ -129,6 +165,19 @@ static void ask_read_text(void)
         read.room = any_room(zone.words, TABLE_ROOM);
         ask(read);
     }
+}
+
+/* Pictures of a zone that holds many places, each in other frames; of another where this one turns out to be empty. */
+static void ask_dense(void)
+{
+    do {
+        any_dense_zone(&zone);
+        make_list(&zone, full);
+    } while (!is_in_list(&zone, any_spot(&zone)) && !one_in(8));
+    lent_zone = zone;
+    if (one_in(4))
+        any_list(any_window(&zone));
+    ask_pictures(8 * any_tests(&zone, list.words));
 }
 
 /* A frame that the zone may hold from its first sample to its last. */
@@ -163,6 +212,8 @@ static void run_case(uint64_t number)
     ask_screens();
     ask_write_text();
     ask_read_text();
+    ask_pictures(any_tests(&zone, list.words));
+    ask_dense();
 }
 
 int main(int argc, char **argv)

@@ -18,7 +18,8 @@ int holds(const struct lent *lent, const void *content);
 
 /* calls.c: one call, asked of both. */
 enum call {
-    CHECK, TREE_POINT, TREE_SEARCH, MAKE_LIST, LIST_POINT, LIST_SEARCH, READ_TEXT, WRITE_TEXT, LIST_SEARCH_FRAMES, CALLS
+    CHECK, TREE_POINT, TREE_SEARCH, MAKE_LIST, LIST_POINT, LIST_SEARCH, READ_TEXT, WRITE_TEXT, LIST_SEARCH_FRAMES,
+    LIST_WATERFALL, CALLS
 };
 
 /* What a call takes; the parts that it does not take are left 0. */
@@ -30,6 +31,7 @@ struct question {
     const struct screen *screen;
     const struct text *text;
     struct lampholly_window window;
+    struct lampholly_rectangle rectangle;
     struct point point;
     size_t room;
 };
@@ -45,6 +47,7 @@ void show_question(const struct question *question);
 extern const char *const call_name[CALLS];
 void tally(const struct question *question, struct plain_answer answer);
 void tally_triple(const uint32_t *triple);
+void tally_picture(const struct question *question, const int32_t *picture);
 void print_tally(uint64_t seed, uint64_t cases);
 int is_all_seen(void);
 

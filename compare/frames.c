@@ -1,10 +1,10 @@
 /* Random frames: codes that pulse, ramp, toggle, wander, graze or swing about the edges of a zone and a window. */
 #include "inputs.h"
 
-/* Plain asks for every code that a column holds, going by rows and a list's words: so much of that can be borne, seldom more. */
+/* Plain asks about every point, going by rows and a list's words: so much of that can be borne, seldom more. */
 #define WORK 20000
-#define STEEP_WORK 4000000
-#define STEEP_SELDOM 40
+#define MUCH_WORK 4000000
+#define MUCH_SELDOM 40
 
 /* From one end of the codes to the other; and what is no short edge. */
 #define SWING (GREATEST_CODE - LEAST_CODE)
@@ -38,11 +38,17 @@ static size_t any_length(void)
     }
 }
 
-/* For one frame, or for all of a screen, to be searched by a list of so many words, or by the tree. */
+/* How many points plain may be asked about, by a list of so many words, or by the tree. */
+int64_t any_tests(const struct table *table, size_t list_words)
+{
+    size_t work = one_in(MUCH_SELDOM) ? MUCH_WORK : WORK;
+    return (int64_t)(work / (1 + rows_in(table->words) + list_words));
+}
+
+/* For one frame, or for all of a screen: plain asks for every code that a column holds. */
 void start_edges(const struct table *table, size_t list_words)
 {
-    size_t work = one_in(STEEP_SELDOM) ? STEEP_WORK : WORK;
-    codes_left = clamped((int64_t)(work / (1 + rows_in(table->words) + list_words)), 0, 2 * SWING);
+    codes_left = clamped(any_tests(table, list_words), 0, 2 * SWING);
 }
 
 /* Stays, leaves by a short edge, or goes to a boundary in this column or the next: so columns begin and end at boundaries. */

@@ -1,4 +1,4 @@
-/* What is lent to the calls, at random: zones, lists, windows, points, frames, screens and texts, sound or damaged. */
+/* What is lent to the calls, at random: zones, lists, windows, points, frames, screens, rectangles and texts, sound or damaged. */
 #ifndef INPUTS_H
 #define INPUTS_H
 
@@ -14,6 +14,7 @@
 #define FRAME_ROOM (MOST_SAMPLES + 1)
 #define SCREEN_ROOM (2 * FRAME_ROOM + MOST_FRAMES) /* two frames that are too long, and what is left over of a division */
 #define TRIPLES_ROOM (TRIPLE_WORDS * (MOST_FRAMES + 20))
+#define PICTURE_ROOM (MOST_PICTURE_WORDS + 60)
 #define TEXT_ROOM 20000
 
 struct table {
@@ -70,7 +71,9 @@ void fill(void *bytes, size_t count);
 /* zones.c: sound tables; primitives.c: their primitives. */
 void any_zone(struct table *table);
 void any_long_zone(struct table *table);
+void any_dense_zone(struct table *table);
 void any_marks(void);
+void near_marks(void);
 void any_long_box(int32_t *row);
 void any_primitive(int32_t *row);
 size_t fields_of(int32_t kind);
@@ -80,7 +83,8 @@ struct box box_of(const int32_t *row);
 void damage_table(struct table *table);
 void damage_list(struct list *list);
 
-/* aims.c, frames.c, screens.c: windows, points, rooms, frames and screens near the zone's edges. */
+/* aims.c, frames.c, screens.c, pictures.c: windows, points, rooms, frames, screens and rectangles near the zone's edges. */
+void to_bounds(struct lampholly_window window, int32_t bound[BOUNDS]);
 struct lampholly_window any_window(const struct table *table);
 struct lampholly_window window_of(const struct list *list);
 struct point any_point(const struct table *table, struct lampholly_window window);
@@ -89,6 +93,7 @@ void any_two_aims(const struct table *table, int64_t *one, int64_t *other);
 int64_t any_code_at(const struct table *table, int64_t column, int64_t number);
 int64_t any_first(size_t samples, const struct table *table, struct lampholly_window window);
 int64_t any_number(const struct table *table, struct lampholly_window window);
+int64_t any_tests(const struct table *table, size_t list_words);
 void start_edges(const struct table *table, size_t list_words);
 void any_codes(int16_t *code, size_t samples, int64_t first, int64_t number,
                const struct table *table, struct lampholly_window window);
@@ -96,6 +101,12 @@ void any_frame(struct frame *frame, const struct table *table, struct lampholly_
 void level_frame(struct frame *frame, const struct table *table);
 void any_screen(struct screen *screen, const struct table *table, struct lampholly_window window, size_t list_words);
 void repeat_frame(struct screen *screen, const struct frame *frame);
+void restore_frames(struct list *list, struct lampholly_window window);
+void keep_old_frames(struct list *list, struct lampholly_window window, struct point spot);
+int64_t keep_some_frames(struct list *list, const struct table *table, struct lampholly_window window, struct point spot,
+                         int64_t tests);
+struct lampholly_rectangle any_rectangle(struct lampholly_window window, struct point spot, int64_t places);
+size_t places_in(struct lampholly_rectangle rectangle);
 size_t any_room(size_t needed, size_t most);
 
 /* texts.c: zone text of any table, and damaged text. */

@@ -1,45 +1,6 @@
 /* Peers: searches that evaluate each column with all codes that it holds. Every primitive is convex, so that in a column of a
    frame it has one run of codes; going down, what a code is inside of changes only where a run begins or ends. */
-#include "peers.h"
-
-/* Codes from the lowest to the highest; none where the lowest is above the highest. */
-struct run {
-    int64_t lowest, highest;
-};
-
-/* The runs that share a code with what the column holds, and whose they are. */
-struct column {
-    size_t runs;
-    struct run run[MOST_PRIMITIVES];
-    uint64_t bit[MOST_PRIMITIVES];
-};
-
-static const struct run nothing = {1, 0};
-
-static struct run run_cut(struct run one, struct run other)
-{
-    one.lowest = one.lowest > other.lowest ? one.lowest : other.lowest;
-    one.highest = one.highest < other.highest ? one.highest : other.highest;
-    return one;
-}
-
-static int64_t floor_divided(int64_t value, int64_t by)
-{
-    return value / by - (value % by != 0 && (value < 0) != (by < 0));
-}
-
-/* The codes of the run at which b * y + c is not below 0. */
-static struct run run_above(struct run run, int64_t b, int64_t c)
-{
-    struct run half = run;
-    if (b == 0)
-        return c >= 0 ? run : nothing;
-    if (b > 0)
-        half.lowest = -floor_divided(c, b);
-    else
-        half.highest = floor_divided(c, -b);
-    return run_cut(run, half);
-}
+#include "peer_runs.h"
 
 static struct run wedge_run(const int32_t *row, struct run codes, int64_t x, int64_t z)
 {
@@ -87,31 +48,12 @@ static struct run primitive_run(const struct peer_zone *zone, int32_t number, st
     }
 }
 
-static void open_column(struct column *column, const struct peer_zone *zone, struct run held, int64_t x, int64_t z)
+/* The runs that share a code with what the column holds. */
+static void open_column(struct line *column, const struct peer_zone *zone, struct run held, int64_t x, int64_t z)
 {
     column->runs = 0;
-    for (int32_t i = 0; i < zone->primitives; i++) {
-        struct run run = primitive_run(zone, i, held, x, z);
-        if (run.lowest <= run.highest) {
-            column->run[column->runs] = run;
-            column->bit[column->runs++] = (uint64_t)1 << i;
-        }
-    }
-}
-
-/* The primitives around a code; and the next code down at which a run begins or ends, or one below all held codes. */
-static uint64_t around_code(const struct column *column, int64_t code, int64_t lowest, int64_t *next)
-{
-    uint64_t around = 0;
-    *next = lowest - 1;
-    for (size_t i = 0; i < column->runs; i++) {
-        struct run run = column->run[i];
-        int is_in = run.lowest <= code && code <= run.highest;
-        int64_t stop = is_in ? run.lowest - 1 : run.highest;
-        around |= is_in ? column->bit[i] : 0;
-        *next = stop < code && stop > *next ? stop : *next;
-    }
-    return around;
+    for (int32_t i = 0; i < zone->primitives; i++)
+        add_run(column, i, primitive_run(zone, i, held, x, z));
 }
 
 static int in_tree_by_mask(const struct peer_zone *zone, int32_t number, uint64_t around)
@@ -128,11 +70,11 @@ static int in_tree_by_mask(const struct peer_zone *zone, int32_t number, uint64_
 /* From the top down, a stop for each set of primitives. With no list, the tree decides. */
 static int is_held_inside(const struct peer_zone *zone, const uint64_t *list, struct run held, int64_t x, int64_t z)
 {
-    struct column column;
+    struct line column;
     int64_t next;
     open_column(&column, zone, held, x, z);
     for (int64_t code = held.highest; code >= held.lowest; code = next) {
-        uint64_t around = around_code(&column, code, held.lowest, &next);
+        uint64_t around = around_value(&column, code, held.lowest, &next);
         if (list == NULL ? in_tree_by_mask(zone, zone->rows - 1, around) : peer_in_products(list, around))
             return 1;
     }

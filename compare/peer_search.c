@@ -1,33 +1,5 @@
 /* Peers: searches that evaluate every sample on its own, by its own code only. */
-#include "peers.h"
-
-static int in_box(const struct peer_box *box, int64_t x, int64_t y, int64_t z)
-{
-    return box->lo[X] <= x && x <= box->hi[X] && box->lo[Y] <= y && y <= box->hi[Y] && box->lo[Z] <= z && z <= box->hi[Z];
-}
-
-static int in_edges(const struct peer_edge *edge, int64_t x, int64_t y)
-{
-    return edge[0].a * x + edge[0].b * y + edge[0].c >= 0
-        && edge[1].a * x + edge[1].b * y + edge[1].c >= 0
-        && edge[2].a * x + edge[2].b * y + edge[2].c >= 0;
-}
-
-static int in_primitive(const struct peer_zone *zone, int32_t number, int64_t x, int64_t y, int64_t z)
-{
-    const int32_t *row = zone->words[number];
-    if (row[KIND] == DRUM) {
-        int64_t dx = x - row[CENTRE + X], dy = y - row[CENTRE + Y];
-        int64_t rx = (int64_t)row[RADIUS + X] * row[RADIUS + X], ry = (int64_t)row[RADIUS + Y] * row[RADIUS + Y];
-        return row[BOUND + LO(Z)] <= z && z <= row[BOUND + HI(Z)] && ry * dx * dx + rx * dy * dy <= rx * ry;
-    }
-    if (row[KIND] == TRIANGLE)
-        return in_box(&zone->box[number], x, y, z) && in_edges(zone->edge[number], x, y);
-    if (x < row[BOUND + LO(X)] || row[BOUND + HI(X)] < x || y < row[BOUND + LO(Y)] || row[BOUND + HI(Y)] < y
-        || z < row[BOUND + LO(Z)] || row[BOUND + HI(Z)] < z)
-        return 0;
-    return row[KIND] == BOX || row[SLOPE + X] * x + row[SLOPE + Y] * y + row[SLOPE + Z] * z <= row[LIMIT];
-}
+#include "peer_shapes.h"
 
 struct lampholly_answer peer_check_frame(size_t samples, int32_t first, int32_t frame)
 {
@@ -104,7 +76,7 @@ static struct lampholly_answer check_list(const uint64_t *list, size_t words)
     return peer_done(0);
 }
 
-static struct peer_box box_of_list(const uint64_t *list)
+struct peer_box peer_box_of_list(const uint64_t *list)
 {
     struct peer_box box;
     for (int axis = X; axis < AXES; axis++) {
@@ -117,7 +89,7 @@ static struct peer_box box_of_list(const uint64_t *list)
 /* Is every sample in the list's window? */
 static struct lampholly_answer check_window(const uint64_t *list, const int16_t *codes, size_t samples, int32_t first, int32_t frame)
 {
-    struct peer_box box = box_of_list(list);
+    struct peer_box box = peer_box_of_list(list);
     for (size_t k = 0; k < samples; k++) {
         int64_t x = first + (int64_t)k, y = codes[k];
         if (x < box.lo[X] || box.hi[X] < x || y < box.lo[Y] || box.hi[Y] < y || frame < box.lo[Z] || box.hi[Z] < frame)

@@ -94,7 +94,8 @@ struct lampholly_answer peer_mask_screen(const int32_t *table, size_t words, con
                                          const int16_t *codes, size_t samples, size_t frames,
                                          int32_t first, int32_t frame, uint32_t *triples, size_t room);
 
-/* peer_search.c, too: what it shares with peer_column.c. A mask, `around`, has a bit for each primitive that a point is in. */
+/* peer_search.c, too: what it shares with peer_column.c and peer_waterfall.c. A mask, `around`, has a bit for each primitive that
+   a point is in. */
 typedef struct lampholly_answer peer_frame_search(const struct peer_zone *zone, const uint64_t *list,
                                                   const int16_t *codes, size_t samples, int32_t first, int32_t frame);
 struct lampholly_answer peer_found(uint64_t position, uint64_t samples);
@@ -103,6 +104,7 @@ struct lampholly_answer peer_check_samples(const uint64_t *list, const int16_t *
                                            int32_t first, int32_t frame);
 struct lampholly_answer peer_open_with_list(const int32_t *table, size_t words, const uint64_t *list, size_t list_words,
                                             struct peer_zone *zone);
+struct peer_box peer_box_of_list(const uint64_t *list);
 int peer_in_tree(const struct peer_zone *zone, int32_t number, int64_t x, int64_t y, int64_t z);
 int peer_in_products(const uint64_t *list, uint64_t around);
 int peer_in_list(const struct peer_zone *zone, const uint64_t *list, int64_t x, int64_t y, int64_t z);
@@ -118,6 +120,10 @@ struct lampholly_answer peer_list_columns(const int32_t *table, size_t words, co
 struct lampholly_answer peer_screen_columns(const int32_t *table, size_t words, const uint64_t *list, size_t list_words,
                                             const int16_t *codes, size_t samples, size_t frames,
                                             int32_t first, int32_t frame, uint32_t *triples, size_t room);
+
+/* peer_waterfall.c: every place evaluated with all frames of the window, by the list. */
+struct lampholly_answer peer_waterfall(const int32_t *table, size_t words, const uint64_t *list, size_t list_words,
+                                       struct lampholly_rectangle rectangle, int32_t *picture, size_t room);
 
 /* peer_text.c */
 struct lampholly_answer peer_read_text(const uint8_t *text, size_t bytes, int32_t *table, size_t room);

@@ -17,6 +17,10 @@ struct plain_window {
     int32_t xlo, xhi, ylo, yhi, zlo, zhi;
 };
 
+struct plain_rectangle {
+    int32_t xlo, xhi, ylo, yhi;
+};
+
 /* A refusal leaves every lent buffer as it was; what lies beyond a result in its buffer stays too. */
 
 struct plain_answer plain_check(const int32_t *table, size_t words);
@@ -39,6 +43,10 @@ struct plain_answer plain_list_search(const int32_t *table, size_t words, const 
 struct plain_answer plain_list_search_frames(const int32_t *table, size_t words, const uint64_t *list, size_t list_words,
                                              const int16_t *codes, size_t samples, size_t frames,
                                              int32_t first, int32_t frame, uint32_t *triples, size_t room);
+
+/* A word a place, from the highest code down, columns rising: the newest frame of the list's window that is inside. */
+struct plain_answer plain_list_waterfall(const int32_t *table, size_t words, const uint64_t *list, size_t list_words,
+                                         struct plain_rectangle rectangle, int32_t *picture, size_t room);
 
 struct plain_answer plain_read_text(const uint8_t *text, size_t bytes, int32_t *table, size_t room);
 

@@ -1,4 +1,4 @@
-/* Answers from a list: a point, and the search of a frame and of a screen; refusals 9 to 11. */
+/* Answers from a list: a point, the search of a frame and of a screen, and the picture of a rectangle; refusals 9 to 11. */
 #include "plain_parts.h"
 
 /* The bits at or past this number of primitives. */
@@ -47,7 +47,7 @@ static struct plain_answer check_list(const uint64_t *list, size_t words)
     return check_products(list);
 }
 
-/* Table, 9, 11: what a point, a frame and a screen share. */
+/* Table, 9, 11: what a point, a frame, a screen and a picture share. */
 static struct plain_answer check_table_and_list(const int32_t *table, size_t words,
                                                 const uint64_t *list, size_t list_words)
 {
@@ -63,14 +63,23 @@ static struct plain_answer check_table_and_list(const int32_t *table, size_t wor
     return plain_done(0);
 }
 
+/* A bound of the list's window. */
+static int64_t window_bound(const uint64_t *list, int bound)
+{
+    return lowered(bound / 2, list[LIST_BOUND + bound]);
+}
+
+static int in_window(const uint64_t *list, int axis, int64_t value)
+{
+    return window_bound(list, LO(axis)) <= value && value <= window_bound(list, HI(axis));
+}
+
 /* The first axis on which the point is out of the list's window, AXES for none. */
 static uint64_t first_bad_axis(const uint64_t *list, struct point point)
 {
-    for (int axis = X; axis < AXES; axis++) {
-        int64_t lo = lowered(axis, list[LIST_BOUND + LO(axis)]), hi = lowered(axis, list[LIST_BOUND + HI(axis)]);
-        if (point.at[axis] < lo || hi < point.at[axis])
+    for (int axis = X; axis < AXES; axis++)
+        if (!in_window(list, axis, point.at[axis]))
             return (uint64_t)axis;
-    }
     return AXES;
 }
 
@@ -183,4 +192,47 @@ struct plain_answer plain_list_search_frames(const int32_t *table, size_t words,
         put_triple(triples + TRIPLE_WORDS * j, answer);
     }
     return plain_done(TRIPLE_WORDS * frames);
+}
+
+/* A bad lo is named before its hi; that hi is below lo, or too far above it, is found at hi. */
+static struct plain_answer check_rectangle(const uint64_t *list, struct plain_rectangle r)
+{
+    const int64_t bound[RECTANGLE_BOUNDS] = {r.xlo, r.xhi, r.ylo, r.yhi};
+    for (int axis = X; axis <= Y; axis++) {
+        int64_t lo = bound[LO(axis)], hi = bound[HI(axis)];
+        if (!in_window(list, axis, lo))
+            return plain_refused(6, LO(axis));
+        if (!in_window(list, axis, hi) || hi < lo || hi - lo > MOST_SIDE - 1)
+            return plain_refused(6, HI(axis));
+    }
+    return plain_done(0);
+}
+
+/* The first inside frame of the window, from the highest down. */
+static int32_t newest_frame(const struct zone *zone, const uint64_t *list, int32_t column, int32_t code)
+{
+    struct point point = {{column, code, window_bound(list, HI(Z))}};
+    for (; point.at[Z] >= window_bound(list, LO(Z)); point.at[Z]--)
+        if (in_list(zone, list, point))
+            return (int32_t)point.at[Z];
+    return NO_FRAME;
+}
+
+struct plain_answer plain_list_waterfall(const int32_t *table, size_t words, const uint64_t *list, size_t list_words,
+                                         struct plain_rectangle rectangle, int32_t *picture, size_t room)
+{
+    struct plain_answer check = check_table_and_list(table, words, list, list_words);
+    if (plain_is_refused(check))
+        return check;
+    check = check_rectangle(list, rectangle);
+    if (plain_is_refused(check))
+        return check;
+    size_t columns = (size_t)(rectangle.xhi - rectangle.xlo) + 1, codes = (size_t)(rectangle.yhi - rectangle.ylo) + 1;
+    if (room < columns * codes)
+        return plain_refused(8, columns * codes);
+    struct zone zone = plain_zone(table, words);
+    for (int32_t code = rectangle.yhi; code >= rectangle.ylo; code--)
+        for (int32_t column = rectangle.xlo; column <= rectangle.xhi; column++)
+            *picture++ = newest_frame(&zone, list, column, code);
+    return plain_done(columns * codes);
 }

@@ -10,6 +10,9 @@ static unsigned seldom_wide[AXES];
 /* How seldom a primitive of the zone is a wedge, a drum or a triangle; drums are small and miss much. */
 static unsigned seldom_wedge, seldom_drum, seldom_triangle;
 
+/* Do the planes of the zone's wedges all pass through their boxes? */
+static int is_dense;
+
 /* Where the text of a number gets a digit more: a power of ten, or one less, or the same below 0. */
 static int64_t any_new_digit(void)
 {
@@ -20,13 +23,15 @@ static int64_t any_new_digit(void)
 }
 
 #define STYLES 6
+#define NEAR_STYLE 1
+#define NEAR_BASE 10000 /* with any slopes, a plane through here has a limit of 32 bits */
 
 static int64_t any_mark_value(int axis, unsigned style, int64_t base)
 {
     int64_t least = limits[axis].least, greatest = limits[axis].greatest;
     switch (style) {
     case 0: return between(-4, 4);
-    case 1: return base + between(-20, 20);
+    case NEAR_STYLE: return base + between(-20, 20);
     case 2: /* where columns end, too: frames go on there */
         return ONE_OF(least, least + 1, LEAST_COLUMN - 1, -1, 0, 1, GREATEST_COLUMN + 1, greatest - 1, greatest);
     case 3: return any_coordinate(axis);
@@ -37,14 +42,32 @@ static int64_t any_mark_value(int axis, unsigned style, int64_t base)
     }
 }
 
+static void put_marks(int axis, unsigned style, int64_t base)
+{
+    for (size_t i = 0; i < MARKS; i++)
+        marks[axis][i] = in_range(axis, any_mark_value(axis, style, base));
+}
+
+/* All shapes are near each other and wide, so that they overlap; many are wedges. */
+void near_marks(void)
+{
+    is_dense = 1;
+    for (int axis = X; axis < AXES; axis++) {
+        put_marks(axis, NEAR_STYLE, between(-NEAR_BASE, NEAR_BASE));
+        seldom_wide[axis] = 1;
+    }
+    seldom_wedge = (unsigned)between(1, 2);
+    seldom_drum = 6;
+    seldom_triangle = 6;
+}
+
 void any_marks(void)
 {
     unsigned common = (unsigned)below(STYLES);
+    is_dense = 0;
     for (int axis = X; axis < AXES; axis++) {
         unsigned style = one_in(2) ? common : (unsigned)below(STYLES);
-        int64_t base = any_coordinate(axis);
-        for (size_t i = 0; i < MARKS; i++)
-            marks[axis][i] = in_range(axis, any_mark_value(axis, style, base));
+        put_marks(axis, style, any_coordinate(axis));
         seldom_wide[axis] = (unsigned)ONE_OF(1, 1, 2, 3, 8);
     }
     seldom_wedge = (unsigned)ONE_OF(1, 3, 5, 20);
@@ -90,12 +113,12 @@ static int64_t any_slope(int is_steep)
 /* The plane mostly runs through the wedge's box, often through a corner, or one beside that. */
 static int64_t any_limit(const int32_t *row)
 {
-    if (one_in(8))
+    if (!is_dense && one_in(8))
         return ONE_OF(INT32_MIN, INT32_MAX, 0, -1, 1, between(INT32_MIN, INT32_MAX), any_new_digit());
     int64_t limit = one_in(2) ? between(-1, 1) : 0;
     for (int axis = X; axis < AXES; axis++) {
         const int32_t *lo_hi = row + BOUND + LO(axis);
-        limit += row[SLOPE + axis] * (one_in(3) ? between(lo_hi[0], lo_hi[1]) : lo_hi[below(2)]);
+        limit += row[SLOPE + axis] * (is_dense || one_in(3) ? between(lo_hi[0], lo_hi[1]) : lo_hi[below(2)]);
     }
     return clamped(limit, INT32_MIN, INT32_MAX);
 }

@@ -170,4 +170,11 @@ static inline uint64_t greatest_word(int axis)
 enum { TRIPLE_TOLD = 0, TRIPLE_VALUE = 1, TRIPLE_COUNT = 2, TRIPLE_WORDS = 3 };
 enum { TOLD_CLEAR = 0, TOLD_HIT = 1, TOLD_REFUSED = 100 };
 
+/* A picture: its rectangle has a window's bounds without the frames, and at most so many columns and so many codes; NO_FRAME
+   stands where no frame is inside. */
+#define RECTANGLE_BOUNDS LO(Z)
+#define MOST_SIDE 128
+#define MOST_PICTURE_WORDS (MOST_SIDE * MOST_SIDE)
+#define NO_FRAME INT32_MIN
+
 #endif

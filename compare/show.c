@@ -76,6 +76,10 @@ void show_question(const struct question *q)
     if (q->call == MAKE_LIST)
         printf("window %" PRId32 "..%" PRId32 " %" PRId32 "..%" PRId32 " %" PRId32 "..%" PRId32 "\n", q->window.xlo,
                q->window.xhi, q->window.ylo, q->window.yhi, q->window.zlo, q->window.zhi);
-    if (q->call == MAKE_LIST || q->call == READ_TEXT || q->call == WRITE_TEXT || q->call == LIST_SEARCH_FRAMES)
+    if (q->call == LIST_WATERFALL)
+        printf("rectangle %" PRId32 "..%" PRId32 " %" PRId32 "..%" PRId32 "\n", q->rectangle.xlo, q->rectangle.xhi,
+               q->rectangle.ylo, q->rectangle.yhi);
+    if (q->call == MAKE_LIST || q->call == READ_TEXT || q->call == WRITE_TEXT || q->call == LIST_SEARCH_FRAMES
+        || q->call == LIST_WATERFALL)
         printf("room %zu\n", q->room);
 }

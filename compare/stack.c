@@ -17,6 +17,10 @@
 #define FRAMES 2
 #define SAMPLES 6
 
+/* From this column on and up to this code a picture is drawn: there every primitive has frames, and no wedge has them all. */
+#define CODE (LEAST_CODE + GREATEST_RADIUS)
+#define SIDE 4
+
 static unsigned char stack[STACK_BYTES] __attribute__((aligned(16)));
 
 /* What the calls are lent. In each of two frames an edge goes up over all codes, and one comes down. */
@@ -24,6 +28,8 @@ static int32_t table[MOST_TABLE_WORDS], read_table[MOST_TABLE_WORDS];
 static uint64_t list[HEADER_WORDS + PRODUCT_WORDS * MOST_PRIMITIVES];
 static const int16_t codes[SAMPLES] = {LEAST_CODE, GREATEST_CODE, LEAST_CODE, LEAST_CODE, GREATEST_CODE, LEAST_CODE};
 static uint32_t triples[FRAMES * TRIPLE_WORDS];
+static const struct lampholly_rectangle rectangle = {COLUMN, COLUMN + SIDE - 1, CODE - SIDE + 1, CODE};
+static int32_t picture[SIDE * SIDE];
 static uint8_t text[MOST_TEXT_BYTES];
 static size_t list_length, text_length;
 static const struct lampholly_window full = {FULL_RANGE};
@@ -66,6 +72,11 @@ static void list_search_frames(void)
                                           triples, sizeof triples / sizeof triples[0]);
 }
 
+static void list_waterfall(void)
+{
+    answer = lampholly_list_waterfall(table, MOST_TABLE_WORDS, list, list_length, rectangle, picture, SIDE * SIDE);
+}
+
 static void write_text(void)
 {
     answer = lampholly_write_text(table, MOST_TABLE_WORDS, text, sizeof text);
@@ -89,6 +100,7 @@ static const struct work {
     {"list_point", list_point, STACK_BYTES},
     {"list_search", list_search, SEARCH_BYTES - 1},
     {"list_search_frames", list_search_frames, SEARCH_BYTES - 1},
+    {"list_waterfall", list_waterfall, STACK_BYTES},
     {"read_text", read_text, STACK_BYTES},
     {"write_text", write_text, PANEL_BYTES / 2},
 };
@@ -158,7 +170,8 @@ static void prepare(int chain, int32_t operation)
     text_length = answer.value;
 }
 
-/* Unions are hit early; of differences nothing is left, so that a search goes through every column to its end. */
+/* Unions are hit early; of differences nothing is left, so that a search goes through every column to its end, and a picture
+   through every place. */
 static size_t most_taken(void (*call)(void), int chain)
 {
     prepare(chain, UNION);

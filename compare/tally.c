@@ -1,6 +1,7 @@
 /* How often each answer was seen: a test that reaches nothing shows. */
 #include <inttypes.h>
 #include <stdio.h>
+#include <string.h>
 
 #include "differ.h"
 
@@ -8,14 +9,14 @@
 
 const char *const call_name[CALLS] = {
     "check", "tree_point", "tree_search", "make_list", "list_point", "list_search", "read_text", "write_text",
-    "list_search_frames",
+    "list_search_frames", "list_waterfall",
 };
 
 /* The refusals that the rules give each call, ended by 0. */
 static const int refusals_of[CALLS][REFUSALS] = {
     {1, 2, 3, 4, 5},        {1, 2, 3, 4, 5, 10},        {1, 2, 3, 4, 5, 12}, {1, 2, 3, 4, 5, 6, 7, 8},
     {1, 2, 3, 4, 5, 9, 11, 10}, {1, 2, 3, 4, 5, 9, 11, 12, 10}, {13, 3, 4, 5, 8},    {1, 2, 3, 4, 5, 8},
-    {1, 2, 3, 4, 5, 9, 11, 12, 8},
+    {1, 2, 3, 4, 5, 9, 11, 12, 8}, {1, 2, 3, 4, 5, 9, 11, 6, 8},
 };
 
 /* What the triple of a frame can tell; a refusal by 12 is told apart by its value. */
@@ -52,6 +53,17 @@ static const char *const edge_name[EDGES] = {
 static const char *const search_name[SEARCHES] = {"tree search", "list search"};
 
 static uint64_t edges[SEARCHES][EDGES];
+
+/* What a place of a picture can tell, with what ends the frames there; and what a refusal by 6 names. */
+enum { NO_FRAME_INSIDE, NEWEST_FRAME, FRAME_BETWEEN, OLDEST_FRAME, UNDER_PLANE, OVER_PLANE, BELOW_HOLE, BAD_BOUND };
+enum { DRAWN = BAD_BOUND + RECTANGLE_BOUNDS };
+
+static const char *const drawn_name[DRAWN] = {
+    "without a frame", "at the window's newest frame", "between its ends", "at its oldest frame", "at a plane with c above 0",
+    "at a plane with c below 0", "below a hole", "refused 6 with 0", "refused 6 with 1", "refused 6 with 2", "refused 6 with 3",
+};
+
+static uint64_t drawn[DRAWN];
 
 static int asks_point(enum call call)
 {
@@ -145,6 +157,75 @@ static void tally_edges(const struct question *q, struct plain_answer answer)
     seen[STEEP_FRAME] += is_steep;
 }
 
+/* On which side of the wedge's plane the point is; it does not look at the box. */
+static int is_under_plane(const int32_t *row, struct point point)
+{
+    int64_t sum = 0;
+    for (int axis = X; axis < AXES; axis++)
+        sum += (int64_t)row[SLOPE + axis] * point.at[axis];
+    return sum <= row[LIMIT];
+}
+
+static int is_in_box(const int32_t *row, struct point point)
+{
+    struct box box = box_of(row);
+    int is_in = 1;
+    for (int axis = X; axis < AXES; axis++)
+        is_in = is_in && box.lo[axis] <= point.at[axis] && point.at[axis] <= box.hi[axis];
+    return is_in;
+}
+
+/* The planes that pass between the newest inside frame and the one above it. */
+static void tally_planes(const struct table *table, struct point newest, struct point above)
+{
+    for (size_t number = 0; number < rows_in(table->words); number++) {
+        const int32_t *row = table->word + table_words(number);
+        if (row[KIND] == WEDGE && is_in_box(row, newest) && is_in_box(row, above)) {
+            drawn[UNDER_PLANE] += is_under_plane(row, newest) && !is_under_plane(row, above);
+            drawn[OVER_PLANE] += !is_under_plane(row, newest) && is_under_plane(row, above);
+        }
+    }
+}
+
+/* Is the point, which is out of the list, in it but for the cuts? */
+static int is_cut_out(const struct question *q, struct point point)
+{
+    static struct list uncut;
+    uint64_t products = q->list->word[LIST_PRODUCTS];
+    uncut.words = list_words(products);
+    memcpy(uncut.word, q->list->word, uncut.words * sizeof uncut.word[0]);
+    for (uint64_t product = 0; product < products; product++)
+        uncut.word[list_words(product) + COMPLEMENTED] = 0;
+    return plain_list_point(q->table->word, q->table->words, uncut.word, uncut.words,
+                            point.at[X], point.at[Y], point.at[Z]).value == 1;
+}
+
+static int what_is_told(int32_t frame, struct lampholly_window window)
+{
+    if (frame == NO_FRAME)
+        return NO_FRAME_INSIDE;
+    return frame == window.zhi ? NEWEST_FRAME : frame == window.zlo ? OLDEST_FRAME : FRAME_BETWEEN;
+}
+
+/* What ends the frames is looked at below the window's newest; whether a cut does, at one place only, since it takes long. */
+void tally_picture(const struct question *q, const int32_t *picture)
+{
+    struct lampholly_window window = window_of(q->list);
+    size_t places = places_in(q->rectangle), columns = (size_t)(q->rectangle.xhi - q->rectangle.xlo) + 1;
+    int is_hole_sought = 1;
+    for (size_t i = 0; i < places; i++) {
+        int told_here = what_is_told(picture[i], window);
+        drawn[told_here]++;
+        if (told_here == NO_FRAME_INSIDE || told_here == NEWEST_FRAME)
+            continue;
+        struct point newest = {{q->rectangle.xlo + (int32_t)(i % columns), q->rectangle.yhi - (int32_t)(i / columns), picture[i]}};
+        struct point above = {{newest.at[X], newest.at[Y], newest.at[Z] + 1}};
+        tally_planes(q->table, newest, above);
+        drawn[BELOW_HOLE] += is_hole_sought && is_cut_out(q, above);
+        is_hole_sought = 0;
+    }
+}
+
 void tally(const struct question *question, struct plain_answer answer)
 {
     enum call call = question->call;
@@ -156,6 +237,8 @@ void tally(const struct question *question, struct plain_answer answer)
         tally_table(question, answer);
     if (question->frame != NULL && answer.refusal == 0)
         tally_edges(question, answer);
+    if (call == LIST_WATERFALL && answer.refusal == 6)
+        drawn[BAD_BOUND + answer.value]++;
 }
 
 void tally_triple(const uint32_t *triple)
@@ -197,7 +280,7 @@ void print_tally(uint64_t seed, uint64_t cases)
     printf(", clear %" PRIu64, answered[TREE_SEARCH][0] + answered[LIST_SEARCH][0]);
     printf(", hit %" PRIu64, answered[TREE_SEARCH][1] + answered[LIST_SEARCH][1]);
     printf(", written %" PRIu64 "; refused", answered[MAKE_LIST][0] + answered[READ_TEXT][0] + answered[WRITE_TEXT][0]
-                                              + answered[LIST_SEARCH_FRAMES][0]);
+                                              + answered[LIST_SEARCH_FRAMES][0] + answered[LIST_WATERFALL][0]);
     for (int number = 1; number <= REFUSALS; number++) {
         uint64_t seen = 0;
         for (int call = 0; call < CALLS; call++)
@@ -205,6 +288,7 @@ void print_tally(uint64_t seed, uint64_t cases)
         printf("%s %d: %" PRIu64, number == 1 ? "" : ",", number, seen);
     }
     print_counts("; triples", told_name, told, TOLD);
+    print_counts("; places", drawn_name, drawn, DRAWN);
     print_counts("; triangles", met_name, met, MET);
     for (int search = 0; search < SEARCHES; search++) {
         printf("; ");
@@ -224,11 +308,12 @@ static int is_each_seen(const char *what, const char *const *name, const uint64_
     return all;
 }
 
-/* Was every answer and refusal that the rules give a call seen of it, all that a triple can tell, and all that can be met of a
-   triangle and of edges? Names what was not. */
+/* Was every answer and refusal that the rules give a call seen of it, all that a triple and a place can tell, and all that can be
+   met of a triangle and of edges? Names what was not. */
 int is_all_seen(void)
 {
     int all = is_each_seen("triple that tells", told_name, told, TOLD);
+    all = is_each_seen("place", drawn_name, drawn, DRAWN) && all;
     all = is_each_seen("triangle", met_name, met, MET) && all;
     for (int search = 0; search < SEARCHES; search++)
         all = is_each_seen(search_name[search], edge_name, edges[search], EDGES) && all;

@@ -225,3 +225,15 @@ void any_long_zone(struct table *table)
     row[LEFT] = 0;
     row[RIGHT] = 1;
 }
+
+/* A few primitives that overlap, many of them wedges: what a picture shows changes from place to place. */
+void any_dense_zone(struct table *table)
+{
+    clear(table);
+    near_marks();
+    grow_primitive(table);
+    for (int64_t more = between(0, 5); more > 0; more--) {
+        grow_primitive(table);
+        join_from(table, 0, (int32_t)ONE_OF(UNION, INTER, DIFF, DIFF));
+    }
+}

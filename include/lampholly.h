@@ -32,14 +32,16 @@
 
    Threads: calls keep no state, so they may run at the same time unless one writes a buffer that is lent to another.
    Stack: bytes as measured (no bounds) on tables of 127 rows: check 328; write_text 392; list_point 536; tree_point 568;
-   tree_search 2,440; list_search 2,488; list_search_frames 2,616; read_text 7,680; make_list 11,296. docs/PERFORMANCE.md says
-   how.
+   list_waterfall 2,152; tree_search 2,520; list_search 2,568; list_search_frames 2,696; read_text 7,680; make_list 11,264.
+   docs/PERFORMANCE.md says how.
    Cost: linear in the rows for check, tree_point and write_text; in the bytes for read_text; in rows + list words for
    list_point. A search is linear in the samples. A sample takes rows + list words, at most twice, and as much again for each
    end of a primitive's codes that its column passes, of which there are two a primitive; where the trace stays clear of the edges
    of the zone it takes next to nothing, however many rows there are. list_search_frames checks table and list once, then
-   takes for each frame what list_search takes for it. make_list takes rows * rows, and then what the choices take that it has to
-   go through: docs/PERFORMANCE.md has times, and no bound is known.
+   takes for each frame what list_search takes for it. list_waterfall checks them once, too; then a place takes rows, and
+   primitives + list words for each step down its frames, of which there are 2 * primitives + 1 at the most, however many frames
+   the window has. make_list takes rows * rows, and then what the choices take that it has to go through: docs/PERFORMANCE.md has
+   times, and no bound is known.
 
    The table's refusals, in their order; each call that takes a table gives them first
       1  words not a multiple of 12, no row, or over 127 rows      value: words
@@ -64,7 +66,7 @@ extern "C" {
 #endif
 
 /* The header's own: hundreds rise where a program that was right may need a change, ones where something was added. */
-#define LAMPHOLLY_VERSION 300
+#define LAMPHOLLY_VERSION 301
 
 /* The kinds of rows. */
 #define LAMPHOLLY_BOX 0
@@ -91,11 +93,15 @@ extern "C" {
 #define LAMPHOLLY_REFUSED_TEXT 13
 
 /* What always suffices: a table of 127 rows, a list of 65,536 products, the longest text that can be read, the triples of 500
-   frames. */
+   frames, a picture of 128 columns and 128 codes. */
 #define LAMPHOLLY_TABLE_WORDS 1524
 #define LAMPHOLLY_LIST_WORDS 131080
 #define LAMPHOLLY_TEXT_BYTES 16384
 #define LAMPHOLLY_TRIPLE_WORDS 1500
+#define LAMPHOLLY_PICTURE_WORDS 16384
+
+/* What stands in a picture where no frame is inside. */
+#define LAMPHOLLY_NO_FRAME (-2147483647 - 1)
 
 /* What a call answers. `refusal` is 0 where nothing is refused; then `value` and `count` are
       0, 0                sound, outside, clear
@@ -111,6 +117,11 @@ struct lampholly_answer {
 /* Both bounds of an axis belong to the window. x is the column, y the code, z the frame number. */
 struct lampholly_window {
     int32_t xlo, xhi, ylo, yhi, zlo, zhi;
+};
+
+/* Both bounds of a side belong to the rectangle. x is the column, y the code. */
+struct lampholly_rectangle {
+    int32_t xlo, xhi, ylo, yhi;
 };
 
 /* Checks a table.
@@ -211,6 +222,20 @@ struct lampholly_answer lampholly_list_search_frames(const int32_t *table, size_
                                                      const int16_t *codes, size_t samples, size_t frames,
                                                      int32_t first, int32_t frame,
                                                      uint32_t *triples, size_t room);
+
+/* Draws the waterfall picture of a rectangle of at most 128 columns and 128 codes: for each of its places the newest frame in
+   the zone. Writes a word a place into picture[0 .. room - 1], row by row from the highest code down, columns rising: the
+   greatest frame of the list's window at which the place is inside as in lampholly_list_point, or LAMPHOLLY_NO_FRAME where there
+   is none. So the word of column x and code y is picture[(yhi - y) * (xhi - xlo + 1) + (x - xlo)].
+   Answers: written (0, columns * codes, 0).
+   Refusals: the table's; the list's; then
+      6  a bound out of the list's window, or hi below lo or over 127 above it (at hi)
+                                                 value: first bad bound, 0..3, in the order of the struct
+      8  no room                                 value: words needed, columns * codes */
+struct lampholly_answer lampholly_list_waterfall(const int32_t *table, size_t words,
+                                                 const uint64_t *list, size_t list_words,
+                                                 struct lampholly_rectangle rectangle,
+                                                 int32_t *picture, size_t room);
 
 #ifdef __cplusplus
 }

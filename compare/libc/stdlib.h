@@ -7,6 +7,7 @@ void *malloc(size_t);
 void free(void *);
 void abort(void);
 void exit(int);
+long strtol(const char *, char **, int);
 unsigned long long strtoull(const char *, char **, int);
 
 #endif

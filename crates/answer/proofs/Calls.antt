@@ -7,7 +7,6 @@ use mathlib.Core.Path.{_≡_, sym, ap, _∙_}
 use lib.IntN.{ℤ}
 use lib.ListN.{length}
 use Rattle.ground.specs.Lists.{firstOf}
-use Rattle.ground.proofs.Counting.{first-kept}
 use Rattle.rules.specs.declared.Located.{Located}
 use Rattle.rules.specs.declared.Located.the-variants as located
 use Rattle.rules.specs.declared.Place.{Place}
@@ -17,13 +16,11 @@ use Rattle.rules.specs.declared.Searched.{Searched}
 use Rattle.rules.specs.declared.Searched.the-variants as searched
 use Rattle.rules.specs.Frame.{frameRefusal, leavesRefusal, sampleInside, firstInside, insideCount}
 use Rattle.rules.specs.ListCalls.{acceptRefusal, ListLocated, ListSearched}
-use Rattle.rules.specs.ListFaults.{listRefusal, primitivesRefusal}
 use Rattle.rules.specs.ListInside.{insideList}
 use Rattle.rules.specs.ListWords.{listWindow}
 use Rattle.rules.specs.Table.{primitives}
 use Rattle.rules.specs.Told.{Tale, Told, fine, refused, tell, toldLocated, toldSearched}
 use Rattle.rules.specs.TreeCalls.{pointRefusal, pointTale, searchTale}
-use Rattle.rules.specs.Verdict.{tableRefusal}
 use Rattle.laws.proofs.Telling.{told-now, told-later, told-fine}
 use Rattle.frame.specs.declared.Tally.{Tally}
 use Rattle.frame.specs.Tallies.{seen, Tallied}
@@ -32,13 +29,6 @@ use Rattle.says.specs.Checks.{Accepted}
 -- ---- table and list together
 
 module _ (t : List ℤ) (list : List ℕ) where
-  pub accepted : acceptRefusal t list ≡ none → Accepted t list
-  unfolding acceptRefusal
-  accepted e =
-      let a = first-kept (tableRefusal t) (listRefusal list ∷ primitivesRefusal (primitives t) list ∷ []) e in
-      let b = first-kept (listRefusal list) (primitivesRefusal (primitives t) list ∷ []) (a .1) in
-      record { accepts = e; table = a .0; list-right = b .0; counts = first-kept (primitivesRefusal (primitives t) list) [] (b .1) .0 }
-
   -- what a call tells, by the rules that come after these
   module _ (more : List (Option Refusal)) (tale : Tale) where
     refused-by : {r : Refusal} → acceptRefusal t list ≡ some r → refused r ≡ tell (firstOf (acceptRefusal t list ∷ more)) tale

@@ -22,7 +22,7 @@ use Rattle.rules.specs.Products.{boxOf}
 use Rattle.rules.specs.Ranges.{within, lesser, greater, around, columns}
 use Rattle.laws.specs.Sound.{solidRight}
 use Rattle.laws.proofs.InBox.{box-holds}
-use Rattle.laws.proofs.Ranges.{second, third, box-columns-in, box-codes-in, bounds-right, x-reach, y-reach, corner-x-in, corner-y-in, first-right, second-right, third-right, corners-right}
+use Rattle.laws.proofs.Ranges.{framed, second, third, box-columns-in, box-codes-in, bounds-right, x-reach, y-reach, corner-x-in, corner-y-in, first-right, second-right, third-right, corners-right}
 use Rattle.laws.proofs.Spaces.{by-axis}
 use Rattle.span.proofs.Order.{from-place, to-place}
 use Rattle.margin.specs.Margins.{spot, Margin}
@@ -32,11 +32,12 @@ use Rattle.calm.specs.Calms.{Ranged, Boxed, Bounded, edgesOf}
 
 -- ---- in range
 
+-- ends that are columns or codes have places
+ranged : (b : Box) → (within columns (b .x .lo) ≡ true) × (within columns (b .x .hi) ≡ true) → (within columns (b .y .lo) ≡ true) × (within columns (b .y .hi) ≡ true) → Ranged b
+ranged b p q = record { xlo = framed (b .x .lo) (p .0); xhi = framed (b .x .hi) (p .1); ylo = framed (b .y .lo) (q .0); yhi = framed (b .y .hi) (q .1) }
+
 box-ranged : (b : BoxShape) → boxRight b ≡ true → Ranged (bounds b)
-box-ranged b h =
-    let p = box-columns-in b h in
-    let q = box-codes-in b h in
-    record { xlo = p .0; xhi = p .1; ylo = q .0; yhi = q .1 }
+box-ranged b h = ranged (bounds b) (box-columns-in b h) (box-codes-in b h)
 
 reach-in : (c r : ℤ) → reachRight columns c r ≡ true → (within columns (c -ℤ r) ≡ true) × (within columns (c +ℤ r) ≡ true)
 reach-in c r h =
@@ -57,18 +58,15 @@ around-in a b c p q r =
 solid-ranged : (s : Primitive) → solidRight s ≡ true → Ranged (boxOf s)
 solid-ranged (primitive.Box b) h = box-ranged b h
 solid-ranged (primitive.Wedge w) h = box-ranged (w .bounds) (bounds-right w h)
-solid-ranged (primitive.Drum d) h =
-    let p = reach-in (d .cx) (d .rx) (x-reach d h) in
-    let q = reach-in (d .cy) (d .ry) (y-reach d h) in
-    record { xlo = p .0; xhi = p .1; ylo = q .0; yhi = q .1 }
+solid-ranged (primitive.Drum d) h = ranged (boxOf (primitive.Drum d)) (reach-in (d .cx) (d .rx) (x-reach d h)) (reach-in (d .cy) (d .ry) (y-reach d h))
 solid-ranged (primitive.Triangle t) h =
     let corners = corners-right t h in
     let a = first-right t corners in
     let b = second-right t corners in
     let c = third-right t corners in
-    let p = around-in (t .first .x) (t .second .x) (t .third .x) (corner-x-in (t .first) a) (corner-x-in (t .second) b) (corner-x-in (t .third) c) in
-    let q = around-in (t .first .y) (t .second .y) (t .third .y) (corner-y-in (t .first) a) (corner-y-in (t .second) b) (corner-y-in (t .third) c) in
-    record { xlo = p .0; xhi = p .1; ylo = q .0; yhi = q .1 }
+    ranged (boxOf (primitive.Triangle t))
+    (around-in (t .first .x) (t .second .x) (t .third .x) (corner-x-in (t .first) a) (corner-x-in (t .second) b) (corner-x-in (t .third) c))
+    (around-in (t .first .y) (t .second .y) (t .third .y) (corner-y-in (t .first) a) (corner-y-in (t .second) b) (corner-y-in (t .third) c))
 
 module _ (s : Primitive) (right : solidRight s ≡ true) (b : BoxShape) (e : bounds b ≡ boxOf s) where
   pub bounds-ranged : Ranged (bounds b)

@@ -10,7 +10,7 @@ use Rattle.rules.specs.declared.Primitive.{Primitive}
 use Rattle.rules.specs.Boxes.{Box}
 use Rattle.rules.specs.Inside.{insideSolid}
 use Rattle.rules.specs.ListWords.{raised}
-use Rattle.rules.specs.Ranges.{within, columns}
+use Rattle.rules.specs.Ranges.{within, frames}
 use Rattle.margin.specs.Margins.{spot, Close}
 use Rattle.calm.specs.declared.Edges.{Edges}
 use Rattle.calm.specs.declared.Rect.{Rect}
@@ -48,12 +48,12 @@ pub record Narrowed (e : Edges) (x v : ℕ) (r s : Rect) : Type 0 where
   pub part : (a b : ℕ) → In a b s → In a b r
   pub same : (test : ℕ → ℕ → Bool) → Bounded test e x v → Same test x v s
 
--- the columns and codes of a box are in range
+-- the ends of a box's columns and codes have places
 pub record Ranged (b : Box) : Type 0 where
-  pub xlo : within columns (b .x .lo) ≡ true
-  pub xhi : within columns (b .x .hi) ≡ true
-  pub ylo : within columns (b .y .lo) ≡ true
-  pub yhi : within columns (b .y .hi) ≡ true
+  pub xlo : within frames (b .x .lo) ≡ true
+  pub xhi : within frames (b .x .hi) ≡ true
+  pub ylo : within frames (b .y .lo) ≡ true
+  pub yhi : within frames (b .y .hi) ≡ true
 
 -- the edges of a box in a frame
 abbrev pub edgesOf : BoxShape → ℤ → ℕ → Edges

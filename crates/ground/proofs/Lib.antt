@@ -5,6 +5,7 @@ pub mod Branches
 pub mod Saying
 pub mod Num
 pub mod Counting
+pub mod Finding
 pub mod Pieces
 pub mod Order
 pub mod Differences

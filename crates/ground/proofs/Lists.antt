@@ -52,6 +52,11 @@ module _ {A B : Type 0} where
   map-at f d e (x ∷ xs) zero l = refl
   map-at f d e (x ∷ xs) (suc k) l = map-at f d e xs k (le-of-suc-le-suc l)
 
+  pub flatMap-map : {C : Type 0} (f : B → List C) (g : A → B) (xs : List A) → flatMap f (map g xs) ≡ flatMap (λ x. f (g x)) xs
+  unfolding flatMap
+  flatMap-map f g [] = refl
+  flatMap-map f g (x ∷ xs) = ap (λ ys. f (g x) ++ ys) (flatMap-map f g xs)
+
   pub flatMap-append : (f : A → List B) (xs ys : List A) → flatMap f (xs ++ ys) ≡ flatMap f xs ++ flatMap f ys
   unfolding flatMap
   flatMap-append f [] ys = refl

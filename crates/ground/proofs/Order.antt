@@ -13,6 +13,10 @@ use Rattle.ground.proofs.Branches.{false-true, bool-both}
 pub leb-same : (a b c d : ℕ) → (a ≤ b → c ≤ d) → (c ≤ d → a ≤ b) → leb a b ≡ leb c d
 leb-same a b c d f g = bool-both (leb a b) (leb c d) (λ h. le-leb c d (f (leb-true a b h))) (λ h. le-leb a b (g (leb-true c d h)))
 
+pub leZ-refl : (a : ℤ) → leZ a a ≡ true
+leZ-refl (pos a) = le-leb a a (omega arith)
+leZ-refl (negsuc a) = le-leb a a (omega arith)
+
 pub leZ-trans : (a b c : ℤ) → leZ a b ≡ true → leZ b c ≡ true → leZ a c ≡ true
 leZ-trans (pos a) (pos b) (pos c) h k = le-leb a c (omega (arith, leb-true a b h, leb-true b c k))
 leZ-trans (pos a) (pos b) (negsuc c) h k = k

@@ -5,14 +5,32 @@ use native.Mathlib.Nat.{add-zero, zero-add}
 use native.Mathlib.Omega.{arith}
 use mathlib.Core.List.{List, [], _∷_, _++_, map, flatMap, append-assoc}
 use mathlib.Core.Path.{_≡_, refl, sym, ap, _∙_}
-use lib.ListN.{length, getD, take, drop, length-append, List·getD-append}
+use lib.ListN.{length, getD, take, drop, length-append, length-map, List·getD-append}
 use lib.Seq.{getD-append-add, take-at, drop-append-add}
 use Rattle.ground.specs.Lists.{from, below, All}
+use Rattle.ground.proofs.Lists.{map-at}
 
 pub from-length : (start n : ℕ) → length (from start n) ≡ n
 unfolding from
 from-length start zero = refl
 from-length start (suc n) = ap suc (from-length (suc start) n)
+
+from-at : (start n k : ℕ) → k < n → getD (from start n) k 0 ≡ start + k
+unfolding from
+from-at start zero k l = absurd (omega arith)
+from-at start (suc n) zero l = sym (add-zero start)
+from-at start (suc n) (suc k) l = let on : suc start + k ≡ start + suc k = omega arith in from-at (suc start) n k (omega arith) ∙ on
+
+pub below-at : (n k : ℕ) → k < n → getD (below n) k 0 ≡ k
+below-at n k l = from-at 0 n k l ∙ zero-add k
+
+-- what is made of each of the numbers: how many there are, and what stands at place k
+module _ {A : Type 0} (f : ℕ → A) where
+  pub made-length : (n : ℕ) → length (map f (below n)) ≡ n
+  made-length n = length-map (below n) f ∙ from-length 0 n
+
+  pub made-at : (d : A) (n k : ℕ) → k < n → getD (map f (below n)) k d ≡ f k
+  made-at d n k l = map-at f 0 d (below n) k (omega (arith, from-length 0 n, l)) ∙ ap f (below-at n k l)
 
 module _ {A : Type 0} where
   pub all-each : (P : A → Type 0) → ((x : A) → P x) → (xs : List A) → All P xs

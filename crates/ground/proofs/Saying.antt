@@ -25,6 +25,15 @@ pub says-itself : (b : Bool) → Says b (b ≡ true)
 says-itself true = refl
 says-itself false = λ e. false-true e
 
+-- what a test says, and that it says so
+pub says-true : (b : Bool) {X : Type 0} → Says b X → X → b ≡ true
+says-true true s x = refl
+says-true false s x = absurd (s x)
+
+pub true-says : (b : Bool) {X : Type 0} → Says b X → b ≡ true → X
+true-says true s e = s
+true-says false s e = false-true e
+
 -- a test that says something of each element says it of some element
 pub says-any : {A : Type 0} (test : A → Bool) (P : A → Type 0) → ((x : A) → Says (test x) (P x)) → (xs : List A) → Says (anyOf test xs) (Some P xs)
 unfolding anyOf

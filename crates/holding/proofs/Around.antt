@@ -15,7 +15,7 @@ use Rattle.rules.specs.Boxes.{holds, everywhere}
 use Rattle.rules.specs.Inside.{insideSolid}
 use Rattle.rules.specs.ListWords.{mostWord, raised}
 use Rattle.laws.specs.Held.{held}
-use Rattle.laws.proofs.Ranges.{x-in, y-in}
+use Rattle.laws.proofs.Ranges.{framed, x-in, y-in}
 use Rattle.reach.specs.Gathering.{withOne}
 use Rattle.reach.proofs.Gathering.{gathers-more}
 use Rattle.span.proofs.Order.{place-below}
@@ -30,7 +30,7 @@ pub holding-none : (p : Point) → holds everywhere p ≡ true → Holding [] p 
 unfolding placesOf
 holding-none p h = record {
   found = record { set = refl; count = refl };
-  here = omega (arith, place-below (p .x) (x-in p h), place-below (p .y) (y-in p h));
+  here = omega (arith, place-below (p .x) (framed (p .x) (x-in p h)), place-below (p .y) (framed (p .y) (y-in p h)));
   each = tt;
 }
 

@@ -55,6 +55,9 @@ module _ (axis : Axis) where
   from-least : (w : ℕ) → lowered axis w ≡ negsuc (greatest axis) +ℤ pos w
   from-least w = +ℤ-comm (pos w) (negsuc (greatest axis))
 
+  pub lowered-rises : (lo hi : ℕ) → lo ≤ hi → leZ (lowered axis lo) (lowered axis hi) ≡ true
+  lowered-rises lo hi l = ap₂ leZ (from-least lo) (from-least hi) ∙ leZ-add (range axis .lo) lo hi l
+
   -- so what lies between two lowered words is in range
   pub lowered-in : (lo hi : ℕ) → hi ≤ mostWord axis → (v : ℤ) → within (record { lo = lowered axis lo; hi = lowered axis hi }) v ≡ true
       → within (range axis) v ≡ true

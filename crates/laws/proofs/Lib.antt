@@ -3,9 +3,13 @@ pub mod Soundness
 pub mod Spans
 pub mod Axes
 pub mod Ranges
+pub mod SpanNumbers
 pub mod Traces
+pub mod Rectangles
+pub mod Pictures
 pub mod Trees
 pub mod Telling
+pub mod Leaving
 pub mod Refusing
 pub mod Columns
 pub mod Screens

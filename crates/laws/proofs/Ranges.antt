@@ -40,6 +40,11 @@ module _ (p : Point) (h : holds everywhere p ≡ true) where
 pub ends-in : (s : Span) (lo hi : ℤ) → endsRight s lo hi ≡ true → (within s lo ≡ true) × (within s hi ≡ true)
 ends-in s lo hi h = (and-left (within s lo) (within s hi && leZ lo hi) h, second (within s lo) (within s hi) (leZ lo hi) h)
 
+-- columns and codes are among the numbers of frames
+pub framed : (c : ℤ) → within columns c ≡ true → within frames c ≡ true
+framed (pos m) h = le-leb m 1048575 (omega (arith, leb-true m 32767 h))
+framed (negsuc m) h = rw (le-leb m 1048575 (omega (arith, leb-true m 32767 (and-left (leb m 32767) true h))))
+
 module _ (b : BoxShape) (h : boxRight b ≡ true) where
   abbrev x-right : Bool
   x-right = endsRight columns (b .xlo) (b .xhi)
@@ -55,6 +60,9 @@ module _ (b : BoxShape) (h : boxRight b ≡ true) where
 
   pub box-codes-in : (within codes (b .ylo) ≡ true) × (within codes (b .yhi) ≡ true)
   box-codes-in = ends-in codes (b .ylo) (b .yhi) (second x-right y-right z-right h)
+
+  pub box-frames : endsRight frames (b .zlo) (b .zhi) ≡ true
+  box-frames = third x-right y-right z-right h
 
 module _ (w : WedgeShape) (h : wedgeRight w ≡ true) where
   pub bounds-right : boxRight (w .bounds) ≡ true
@@ -97,6 +105,9 @@ module _ (d : DrumShape) (h : drumRight d ≡ true) where
   pub y-reach : reachRight codes (d .cy) (d .ry) ≡ true
   y-reach = second (reachRight columns (d .cx) (d .rx)) (reachRight codes (d .cy) (d .ry)) (endsRight frames (d .zlo) (d .zhi)) h
 
+  pub drum-frames : endsRight frames (d .zlo) (d .zhi) ≡ true
+  drum-frames = third (reachRight columns (d .cx) (d .rx)) (reachRight codes (d .cy) (d .ry)) (endsRight frames (d .zlo) (d .zhi)) h
+
   pub cx-in : within columns (d .cx) ≡ true
   cx-in = centre-in 32767 (d .cx) (d .rx) x-reach
 
@@ -127,14 +138,17 @@ module _ (t : TriangleShape) (h : cornersRight t ≡ true) where
   third-right = third (cornerRight (t .first)) (cornerRight (t .second)) (cornerRight (t .third)) h
 
 module _ (t : TriangleShape) (h : triangleRight t ≡ true) where
-  abbrev framed : Bool
-  framed = endsRight frames (t .zlo) (t .zhi)
+  abbrev ends : Bool
+  ends = endsRight frames (t .zlo) (t .zhi)
 
   abbrev spread : Bool
   spread = not (eqZ (twiceArea t) (pos 0))
 
   pub corners-right : cornersRight t ≡ true
-  corners-right = and-left (cornersRight t) (framed && spread) h
+  corners-right = and-left (cornersRight t) (ends && spread) h
+
+  pub triangle-frames : endsRight frames (t .zlo) (t .zhi) ≡ true
+  triangle-frames = second (cornersRight t) ends spread h
 
   pub not-flat : eqZ (twiceArea t) (pos 0) ≡ false
-  not-flat = not-true (eqZ (twiceArea t) (pos 0)) (third (cornersRight t) framed spread h)
+  not-flat = not-true (eqZ (twiceArea t) (pos 0)) (third (cornersRight t) ends spread h)

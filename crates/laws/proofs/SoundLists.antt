@@ -33,7 +33,12 @@ module _ (list : List ℕ) where
       let upper = ltb most (word list (i + 1)) in
       let b = first-kept (refuseIf (upper || ltb (word list (i + 1)) (word list i)) 9 (i + 1)) others (a .1) in
       let high = or-false upper (ltb (word list (i + 1)) (word list i)) (if-kept _ 9 (i + 1) (b .0)) in
-      (record { lo = ltb-false most (word list i) (if-kept _ 9 i (a .0)); hi = ltb-false most (word list (i + 1)) (high .0) }, b .1)
+      let bounds : BoundsIn list axis = record {
+        lo = ltb-false most (word list i) (if-kept _ 9 i (a .0));
+        hi = ltb-false most (word list (i + 1)) (high .0);
+        rise = ltb-false (word list (i + 1)) (word list i) (high .1);
+      } in
+      (bounds, b .1)
 
   pub header-sound : firstOf (headerRefusals list) ≡ none → SoundHeader list
   header-sound e =

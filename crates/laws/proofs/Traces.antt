@@ -16,10 +16,11 @@ use Rattle.ground.proofs.Branches.{and-left, and-right, false-true}
 use Rattle.ground.proofs.Counting.{rest-all, all-made}
 use Rattle.ground.proofs.Differences.{parts, pos-parts, add-parts, sub-parts, same-parts, le-parts, abs-parts}
 use Rattle.ground.proofs.Lists.{all-map}
-use Rattle.ground.proofs.Order.{leZ-trans, leZ-add}
-use Rattle.rules.specs.Frame.{codeAt, fill, heldSpan, codesOf, heldCodes}
-use Rattle.rules.specs.Ranges.{Span, within}
+use Rattle.ground.proofs.Order.{leZ-refl, leZ-trans, leZ-add}
+use Rattle.rules.specs.Frame.{codeAt, fill, heldSpan, heldCodes}
+use Rattle.rules.specs.Ranges.{Span, within, upwards}
 use Rattle.laws.proofs.Spaces.{not-less}
+use Rattle.laws.proofs.SpanNumbers.{up-within}
 
 -- ---- steps from one code to another
 
@@ -89,18 +90,12 @@ module _ (s : Span) (h : leZ (s .lo) (s .hi) ≡ true) where
   abbrev step : ℕ → ℤ
   step i = s .lo +ℤ pos i
 
-  each-within : (i : ℕ) → i < suc last → within s (step i) ≡ true
-  each-within i l =
-      let low : leZ (s .lo) (step i) ≡ true = rw (+ℤ-idr (s .lo)) at (leZ-add (s .lo) 0 i (omega arith)) in
-      let high : leZ (step i) (s .hi) ≡ true = rw (steps (s .lo) (s .hi) h) at (leZ-add (s .lo) i last (omega arith)) in
-      ap₂ _&&_ low high
-
   -- each of them is in it
-  codes-within : All (λ c. within s c ≡ true) (codesOf s)
-  codes-within = subst (λ (ks : List ℕ). All (λ c. within s c ≡ true) (map step ks)) (rest-all (suc last)) (all-made (λ c. within s c ≡ true) step (suc last) each-within)
+  codes-within : All (λ c. within s c ≡ true) (upwards s)
+  codes-within = subst (λ (ks : List ℕ). All (λ c. within s c ≡ true) (map step ks)) (rest-all (suc last)) (all-made (λ c. within s c ≡ true) step (suc last) (up-within s h))
 
   -- and each that is in it is one of them
-  codes-all : (c : ℤ) → within s c ≡ true → Some (λ d. d ≡ c) (codesOf s)
+  codes-all : (c : ℤ) → within s c ≡ true → Some (λ d. d ≡ c) (upwards s)
   codes-all c w =
       let low : leZ (s .lo) c ≡ true = and-left (leZ (s .lo) c) (leZ c (s .hi)) w in
       let high : leZ c (s .hi) ≡ true = and-right (leZ (s .lo) c) (leZ c (s .hi)) w in
@@ -133,9 +128,6 @@ apart a c h k = false-true (sym (ap not h) ∙ not-less a c ∙ k)
 less-weak : (a c : ℤ) → ltZ a c ≡ true → leZ a c ≡ true
 less-weak a c h = leZ-trans a (a +ℤ pos 1) c (rw (+ℤ-idr a) at (leZ-add a 0 1 (omega arith))) (from-next a c ∙ h)
 
-itself : (a : ℤ) → leZ a a ≡ true
-itself a = rw (+ℤ-idr a) at (leZ-add a 0 0 (omega arith))
-
 module _ (before code : ℤ) where
   abbrev rising : Span
   rising = record { lo = before +ℤ pos 1; hi = code }
@@ -156,7 +148,7 @@ module _ (before code : ℤ) where
       go false false e f = same (equal before code (not-above code before f) (not-above before code e))
 
   fill-rises : leZ (fill before code .lo) (fill before code .hi) ≡ true
-  fill-rises = by-slope (λ s. leZ (s .lo) (s .hi) ≡ true) (λ l. from-next before code ∙ l) (λ l. to-previous before code ∙ l) (λ e. itself code)
+  fill-rises = by-slope (λ s. leZ (s .lo) (s .hi) ≡ true) (λ l. from-next before code ∙ l) (λ l. to-previous before code ∙ l) (λ e. leZ-refl code)
 
   within-lies : (c : ℤ) → within (fill before code) c ≡ true → Lies before code c
   within-lies c =
@@ -171,17 +163,17 @@ module _ (before code : ℤ) where
       up : ltZ before code ≡ true → Lies before code c → within rising c ≡ true
       up l (inl (a, b)) = ap₂ _&&_ (from-next before c ∙ a) b
       up l (inr (inl (a, b))) = apart before code l (leZ-trans code c before a (less-weak c before b))
-      up l (inr (inr (e, f))) = apart before code l (subst (λ (z : ℤ). leZ code z ≡ true) (sym e) (itself code))
+      up l (inr (inr (e, f))) = apart before code l (subst (λ (z : ℤ). leZ code z ≡ true) (sym e) (leZ-refl code))
 
       down : ltZ code before ≡ true → Lies before code c → within falling c ≡ true
       down l (inl (a, b)) = apart code before l (leZ-trans before c code (less-weak before c a) b)
       down l (inr (inl (a, b))) = ap₂ _&&_ a (to-previous before c ∙ b)
-      down l (inr (inr (e, f))) = apart code before l (subst (λ (z : ℤ). leZ z code ≡ true) (sym e) (itself code))
+      down l (inr (inr (e, f))) = apart code before l (subst (λ (z : ℤ). leZ z code ≡ true) (sym e) (leZ-refl code))
 
       same : before ≡ code → Lies before code c → within level c ≡ true
       same e (inl (a, b)) = apart before c a (subst (λ (z : ℤ). leZ c z ≡ true) (sym e) b)
       same e (inr (inl (a, b))) = apart c before b (subst (λ (z : ℤ). leZ z c ≡ true) (sym e) a)
-      same e (inr (inr (_, f))) = let is : within level code ≡ true = ap₂ _&&_ (itself code) (itself code) in subst (λ (z : ℤ). within level z ≡ true) (sym f) is
+      same e (inr (inr (_, f))) = let is : within level code ≡ true = ap₂ _&&_ (leZ-refl code) (leZ-refl code) in subst (λ (z : ℤ). within level z ≡ true) (sym f) is
 
   -- a span that has both codes has every code between
   fill-in : (s : Span) → within s before ≡ true → within s code ≡ true → (c : ℤ) → within (fill before code) c ≡ true → within s c ≡ true
@@ -200,7 +192,7 @@ module _ (before code : ℤ) where
 
 -- from a code to itself that code alone is filled: sample 0 is as one that comes from its own code
 fill-own : (code : ℤ) → fill code code ≡ level code code
-fill-own code = by-slope code code (λ s. s ≡ level code code) (λ l. apart code code l (itself code)) (λ l. apart code code l (itself code)) (λ e. refl)
+fill-own code = by-slope code code (λ s. s ≡ level code code) (λ l. apart code code l (leZ-refl code)) (λ l. apart code code l (leZ-refl code)) (λ e. refl)
 
 pub held-from : (samples : List ℤ) (k : ℕ) → heldSpan samples k ≡ fill (codeAt samples (k - 1)) (codeAt samples k)
 held-from samples zero = let first : 0 ≡ 0 - 1 = omega arith in sym (fill-own (codeAt samples 0)) ∙ ap (λ (j : ℕ). fill (codeAt samples j) (codeAt samples 0)) first
@@ -212,8 +204,8 @@ pub held-in : (s : Span) (samples : List ℤ) (n : ℕ) → ((j : ℕ) → j < n
 held-in s samples n h k l =
     let before = codeAt samples (k - 1) in
     let own = codeAt samples k in
-    subst (λ (f : Span). All (λ c. within s c ≡ true) (codesOf f)) (sym (held-from samples k))
-    (all-map (λ c. within (fill before own) c ≡ true) (λ c. within s c ≡ true) (fill-in before own s (h (k - 1) (omega arith)) (h k l)) (codesOf (fill before own))
+    subst (λ (f : Span). All (λ c. within s c ≡ true) (upwards f)) (sym (held-from samples k))
+    (all-map (λ c. within (fill before own) c ≡ true) (λ c. within s c ≡ true) (fill-in before own s (h (k - 1) (omega arith)) (h k l)) (upwards (fill before own))
     (codes-within (fill before own) (fill-rises before own)))
 
 -- sample 0 holds its own code alone

@@ -1,5 +1,6 @@
 pub mod Sound
 pub mod Checking
+pub mod Drawing
 pub mod Plans
 pub mod Survivors
 pub mod Reach

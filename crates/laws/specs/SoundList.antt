@@ -7,10 +7,11 @@ use Rattle.rules.specs.declared.Axis.the-variants.{Column, Code, Frame}
 use Rattle.rules.specs.ListFaults.{mostProducts, mostPrimitives}
 use Rattle.rules.specs.ListWords.{headerWords, mostWord, word, boundsWord, productCount, primitiveCount, placeOf, productAt}
 
--- the bounds of an axis are those of points in range
+-- the bounds of an axis are those of points in range, and hi is not below lo
 pub record BoundsIn (list : List ℕ) (axis : Axis) : Type 0 where
   pub lo : word list (boundsWord axis) ≤ mostWord axis
   pub hi : word list (boundsWord axis + 1) ≤ mostWord axis
+  pub rise : word list (boundsWord axis) ≤ word list (boundsWord axis + 1)
 
 pub record SoundHeader (list : List ℕ) : Type 0 where
   pub few : productCount list ≤ mostProducts

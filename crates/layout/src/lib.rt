@@ -58,7 +58,7 @@ fn raise(axis: Axis, bound: i32) -> u64
 }
 
 // A bound from its word.
-fn lower(axis: Axis, word: u64) -> i32
+pub fn lower(axis: Axis, word: u64) -> i32
     requires { ⌜ word ≤ mostWord axis ⌝ }
     ensures { λ r. ⌜ r ≡ lowered axis word ⌝ }
 {

@@ -13,15 +13,15 @@ use Rattle.rules.specs.Boxes.{holds, everywhere}
 use Rattle.rules.specs.Inside.{insideSolid}
 use Rattle.rules.specs.ListWords.{raised}
 use Rattle.rules.specs.Ranges.{within, columns}
-use Rattle.laws.proofs.Ranges.{x-in, y-in}
+use Rattle.laws.proofs.Ranges.{framed, x-in, y-in}
 use Rattle.span.specs.Along.{value}
 use Rattle.span.proofs.Order.{place-back, places-apart}
 use Rattle.margin.specs.Margins.{spot, Margin}
 
 pub spot-here : (p : Point) → holds everywhere p ≡ true → spot (p .z) (raised Frame (p .x)) (raised Frame (p .y)) ≡ p
 spot-here p h =
-    let x = place-back (p .x) (x-in p h) in
-    let y = place-back (p .y) (y-in p h) in
+    let x = place-back (p .x) (framed (p .x) (x-in p h)) in
+    let y = place-back (p .y) (framed (p .y) (y-in p h)) in
     λ i. record { x = x i; y = y i; z = p .z }
 
 pub point-alone : (s : Primitive) (p : Point) → holds everywhere p ≡ true → Margin s p 0
@@ -37,4 +37,4 @@ box-filled b p m = record { same = λ x v c k l. l ∙ sym k }
 
 -- a place at most m from a coordinate's stands for a number at most m from it
 pub near-value : (c : ℤ) → within columns c ≡ true → (m v : ℕ) → raised Frame c ≤ v + m → v ≤ raised Frame c + m → natAbs (value v -ℤ c) ≤ m
-near-value c h m v low high = omega (arith, places-apart v c h)
+near-value c h m v low high = omega (arith, places-apart v c (framed c h))

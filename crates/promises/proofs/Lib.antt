@@ -11,6 +11,7 @@ pub mod Strangers
 pub mod Outcomes
 pub mod Searches
 pub mod Screens
+pub mod Pictures
 pub mod Copies
 pub mod RoundTrips
 pub mod Possible

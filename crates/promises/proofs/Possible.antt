@@ -19,6 +19,7 @@ use Rattle.rules.specs.declared.Kind.{Kind}
 use Rattle.rules.specs.declared.Located.{Located}
 use Rattle.rules.specs.declared.Place.{Place}
 use Rattle.rules.specs.declared.Point.{Point}
+use Rattle.rules.specs.declared.Rectangle.{Rectangle}
 use Rattle.rules.specs.declared.Refusal.{Refusal}
 use Rattle.rules.specs.declared.Searched.{Searched}
 use Rattle.rules.specs.declared.Window.{Window}
@@ -27,6 +28,7 @@ use Rattle.rules.specs.Boxes.{Box, holds}
 use Rattle.rules.specs.Frame.{codeAt, pointOf, frameRefusal, leavesRefusal, sampleInside, firstInside, insideCount}
 use Rattle.rules.specs.Inside.{inside}
 use Rattle.rules.specs.ListCalls.{windowRefusal, makeRefusal, ListMade, acceptRefusal, listPointRefusal, ListLocated, listSearchRefusal, ListSearched, screenRefusal, ScreenSearched}
+use Rattle.rules.specs.ListCalls.{waterfallRefusal, PictureDrawn}
 use Rattle.rules.specs.ListFaults.{headerRefusals, productRefusals, listRefusal}
 use Rattle.rules.specs.ListInside.{insideList}
 use Rattle.rules.specs.ListWords.{productCount}
@@ -37,6 +39,7 @@ use Rattle.rules.specs.TextForm.{TextForm, too-long, faulty, spelt}
 use Rattle.rules.specs.Told.{Tale, Told, sound, fine, tell, toldChecked, toldLocated, toldSearched, toldWritten}
 use Rattle.rules.specs.Tree.{treeOf}
 use Rattle.rules.specs.TreeCalls.{pointRefusal, pointTale, searchTale, TableChecked, treePointRefusal, TreeLocated, treeSearchRefusal, TreeSearched}
+use Rattle.rules.specs.Waterfall.{rectangleRefusal}
 use Rattle.rules.specs.Verdict.{rowRefusalBy, rowRefusal, rowsRefusal, childOnce, childRefusal, tableRefusal}
 use Rattle.laws.proofs.Refusing.{Gives, none-gives, refuse-gives, if-gives, unless-gives, first-gives, rulings-give, told-by}
 use Rattle.promises.specs.Possible.{lastRefusal, InTable, Possible}
@@ -114,12 +117,15 @@ accept-tabled t list = search (tabled, table-tabled, list-tabled)
 window-tabled : (w : Window) → Tabled (windowRefusal w)
 window-tabled w = search tabled depth 8
 
+rectangle-tabled : (window : Box) (q : Rectangle) → Tabled (rectangleRefusal window q)
+rectangle-tabled window q = search tabled depth 8
+
 form-tabled : {text : List ℕ} (form : TextForm text) → Tabled (formRefusal form)
 form-tabled (too-long over) = search tabled
 form-tabled (faulty line short fault) = search tabled
 form-tabled (spelt rows short some-row not-over right is) = none-gives Numbered
 
-ruleset calls = (tabled, table-tabled, point-tabled, frame-tabled, leaves-tabled, accept-tabled, window-tabled, form-tabled)
+ruleset calls = (tabled, table-tabled, point-tabled, frame-tabled, leaves-tabled, accept-tabled, window-tabled, rectangle-tabled, form-tabled)
 
 -- ---- what is told by such a rule, or else by a tale that is possible where nothing is refused
 
@@ -178,6 +184,10 @@ pub list-search-frames-possible : {t : List ℤ} {list : List ℕ} {codes : List
     → ScreenSearched t list codes frames place before after r → Possible (toldWritten r)
 list-search-frames-possible {t} {list} {codes} {frames} {place} {before} m =
     told-possible (screenRefusal t list codes frames (length before)) _ (search calls depth 9) refl (m .answer)
+
+pub list-waterfall-possible : {t : List ℤ} {list : List ℕ} {q : Rectangle} {before after : List ℤ} {r : Written}
+    → PictureDrawn t list q before after r → Possible (toldWritten r)
+list-waterfall-possible {t} {list} {q} {before} m = told-possible (waterfallRefusal t list q (length before)) _ (search calls depth 9) refl (m .answer)
 
 pub read-text-possible : {text : List ℕ} {before after : List ℤ} {r : Written} → TextRead text before after r → Possible (toldWritten r)
 read-text-possible {before = before} m = told-possible (readRefusal (m .form) (length before)) _ (search calls depth 9) refl (m .answer)

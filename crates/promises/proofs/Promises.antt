@@ -14,7 +14,7 @@ use Rattle.rules.specs.declared.Written.the-variants.{Wrote}
 use Rattle.rules.specs.Boxes.{Box}
 use Rattle.rules.specs.Frame.{firstInside, insideCount}
 use Rattle.rules.specs.Inside.{inside}
-use Rattle.rules.specs.ListCalls.{zoneList, makeRefusal, ListMade, listPointRefusal, listSearchRefusal, screenRefusal}
+use Rattle.rules.specs.ListCalls.{zoneList, makeRefusal, ListMade, listPointRefusal, listSearchRefusal, screenRefusal, waterfallRefusal}
 use Rattle.rules.specs.ListInside.{insideList}
 use Rattle.rules.specs.Products.{products}
 use Rattle.rules.specs.Screen.{tripleWords}
@@ -23,9 +23,10 @@ use Rattle.rules.specs.TextCalls.{tableRead, readRefusal, tableText, writeRefus
 use Rattle.rules.specs.Told.{fine, wrote, tell, toldWritten}
 use Rattle.rules.specs.Tree.{treeOf}
 use Rattle.rules.specs.TreeCalls.{treePointRefusal, treeSearchRefusal}
+use Rattle.rules.specs.Waterfall.{pictureWords}
 use Rattle.rules.proofs.Settled.{tree-located-settled, tree-searched-settled, list-located-settled, list-searched-settled, list-made-settled}
 use Rattle.rules.proofs.Settled.{text-read-settled, text-written-settled, list-made-keeps, text-read-keeps, text-written-keeps}
-use Rattle.rules.proofs.Settled.{screen-searched-settled, screen-searched-keeps}
+use Rattle.rules.proofs.Settled.{screen-searched-settled, screen-searched-keeps, picture-drawn-settled, picture-drawn-keeps}
 use Rattle.rules.proofs.Told.{written-once, triple-once}
 use Rattle.promises.specs.Promises.{Promise1, InTree, InList, Made, Faithful, Promise2, Listable, Promise3}
 use Rattle.promises.proofs.ListAsTree.{sampleHeld, window-in-range, made-passes, list-locates, list-answers-tree, list-refuses-outside, searches-agree}
@@ -34,6 +35,7 @@ use Rattle.promises.proofs.Outcomes.{check-answers, point-answers, sear
 use Rattle.promises.proofs.Buffers.{list-right, list-rest, list-room}
 use Rattle.promises.proofs.Searches.{search-finds}
 use Rattle.promises.proofs.Screens.{screen-writes, screen-tells}
+use Rattle.promises.proofs.Pictures.{picture-writes, picture-tells, made-picture}
 use Rattle.promises.proofs.Sets.{tests-are-sets, tree-answers-sets}
 use Rattle.promises.proofs.Strangers.{stranger-refused}
 use Rattle.promises.proofs.RoundTrips.{writes-text, table-text-table, reads-text, text-table-text}
@@ -60,6 +62,9 @@ promise-1 = record {
   list-search-frames = λ t list codes frames place before.
       writes (screenRefusal t list codes frames (length before)) (tripleWords * frames)
       (λ after r m. m .answer) (λ a b r s. screen-searched-settled) (λ after q. screen-searched-keeps);
+  list-waterfall = λ t list q before.
+      writes (waterfallRefusal t list q (length before)) (pictureWords q)
+      (λ after r m. m .answer) (λ a b r s. picture-drawn-settled) (λ after q. picture-drawn-keeps);
   read-text = λ text form before.
       writes (readRefusal form (length before)) (length (tableRead form))
       (λ after r. read-answer form) (λ a b r s. text-read-settled) (λ after q. text-read-keeps);
@@ -82,6 +87,7 @@ faithful {t} {w} {list} m = record {
       stranger-refused t list samples place by-list (passes .0) frame k l
       (ap (λ (b : Box). sampleHeld b samples place k) (passes .1) ∙ out)
       (λ j h. ap (λ (b : Box). sampleHeld b samples place j) (passes .1) ∙ earlier j h);
+  picture = λ q met wrote-it. made-picture t w list list n here met wrote-it;
 }
   where
     n : ℕ
@@ -105,6 +111,8 @@ promise-2 = record {
   screen-writes = screen-writes;
   screen-tells = screen-tells;
   triples-apart = triple-once;
+  picture-writes = picture-writes;
+  picture-tells = picture-tells;
   writes-text = writes-text;
   table-text-table = table-text-table;
   reads-text = reads-text;

@@ -7,13 +7,15 @@ use mathlib.Core.List.{List, map}
 use mathlib.Core.Logic.{_⊎_}
 use mathlib.Core.Option.{Option, none, some}
 use mathlib.Core.Path.{_≡_}
-use lib.IntN.{ℤ}
-use lib.ListN.{length, take, drop}
+use lib.IntN.{ℤ, pos, _+ℤ_, _-ℤ_}
+use lib.ListN.{length, getD, take, drop}
+use lib.Signed.{leZ}
 use Rattle.ground.specs.Lists.{All, Some, keepIf}
 use Rattle.rules.specs.declared.Located.{Located}
 use Rattle.rules.specs.declared.Place.{Place}
 use Rattle.rules.specs.declared.Point.{Point}
 use Rattle.rules.specs.declared.Product.{Product}
+use Rattle.rules.specs.declared.Rectangle.{Rectangle}
 use Rattle.rules.specs.declared.Refusal.{Refusal}
 use Rattle.rules.specs.declared.Searched.{Searched}
 use Rattle.rules.specs.declared.Window.{Window}
@@ -22,10 +24,11 @@ use Rattle.rules.specs.Boxes.{holds, everywhere, windowBox}
 use Rattle.rules.specs.Choices.{choices, inOf, expansion}
 use Rattle.rules.specs.Frame.{codeAt, heldCodes, pointOf, frameRefusal}
 use Rattle.rules.specs.ListCalls.{mostChoices, windowRefusal, makeRefusal, ListMade, listPointRefusal, ListLocated, listSearchRefusal, ListSearched}
-use Rattle.rules.specs.ListCalls.{screenRefusal, ScreenSearched}
+use Rattle.rules.specs.ListCalls.{screenRefusal, ScreenSearched, waterfallRefusal, PictureDrawn}
 use Rattle.rules.specs.ListInside.{insideList}
-use Rattle.rules.specs.ListWords.{headerWords, productWords, listOf, word}
+use Rattle.rules.specs.ListWords.{headerWords, productWords, listOf, word, listWindow}
 use Rattle.rules.specs.Products.{stays, trimmed, firsts}
+use Rattle.rules.specs.Ranges.{Span, within, sizeOf}
 use Rattle.rules.specs.Refusals.{refuse}
 use Rattle.rules.specs.Screen.{frameAt, later, tripleWords, tripleOf}
 use Rattle.rules.specs.Table.{primitives}
@@ -35,6 +38,7 @@ use Rattle.rules.specs.Told.{Told, inside, outside, clear, hit, wrote, fine, re
 use Rattle.rules.specs.Tree.{treeOf}
 use Rattle.rules.specs.TreeCalls.{pointRefusal, TableChecked, treePointRefusal, TreeLocated, treeSearchRefusal, TreeSearched}
 use Rattle.rules.specs.Verdict.{tableRefusal}
+use Rattle.rules.specs.Waterfall.{noFrame, columnsOf, codesOf, pictureWords}
 use Rattle.promises.specs.EachOnce.{EachOnce}
 use Rattle.promises.specs.Sets.{InSet}
 
@@ -66,7 +70,7 @@ pub record Writes {A : Type 0} (Meets : List A → Written → Type 0) (before :
   -- a refusal leaves the buffer as it was
   pub unchanged : {after : List A} {r : Written} {q : Refusal} → Meets after r → toldWritten r ≡ refused q → after ≡ before
 
--- the nine public calls, at every input
+-- the ten public calls, at every input
 pub record Promise1 : Type 0 where
   pub check-table : (t : List ℤ) → OnlyAnswers toldChecked (TableChecked t) (tableRefusal t)
   pub tree-point : (t : List ℤ) (p : Point) → OnlyAnswers toldLocated (TreeLocated t p) (treePointRefusal t p)
@@ -78,6 +82,8 @@ pub record Promise1 : Type 0 where
       → OnlyAnswers toldSearched (ListSearched t list samples place) (listSearchRefusal t list samples place)
   pub list-search-frames : (t : List ℤ) (list : List ℕ) (codes : List ℤ) (frames : ℕ) (place : Place) (before : List ℕ)
       → Writes (ScreenSearched t list codes frames place before) before (screenRefusal t list codes frames (length before))
+  pub list-waterfall : (t : List ℤ) (list : List ℕ) (q : Rectangle) (before : List ℤ)
+      → Writes (PictureDrawn t list q before) before (waterfallRefusal t list q (length before))
   -- `form` is how the text stands: too long, with a first faulty line, or right
   pub read-text : (text : List ℕ) (form : TextForm text) (before : List ℤ) → Writes (TextRead text before) before (readRefusal form (length before))
   pub write-text : (t : List ℤ) (before : List ℕ) → Writes (TextWritten t before) before (writeRefusal t (length before))
@@ -112,6 +118,24 @@ pub record BySet (InZone : Type 0) (r : Located) : Type 0 where
   pub in-zone : InZone → toldLocated r ≡ fine inside
   pub out-of-zone : (InZone → ⊥) → toldLocated r ≡ fine outside
 
+-- the word of column i in row j of a picture, rows counted from the highest code down; and the points of its place, frame by frame
+abbrev pub pictureWord : Rectangle → List ℤ → ℕ → ℕ → ℤ
+pictureWord q words j i = getD words (j * sizeOf (columnsOf q) + i) noFrame
+
+abbrev pub pointIn : Rectangle → ℕ → ℕ → ℤ → Point
+pointIn q j i z = record { x = q .xlo +ℤ pos i; y = q .yhi -ℤ pos j; z = z }
+
+-- a word is the newest of some frames: the largest that is inside, and that there is none only where there is none
+pub record Newest (frames : Span) (Inside : ℤ → Type 0) (word : ℤ) : Type 0 where
+  pub if-some : (z : ℤ) → within frames z ≡ true → Inside z → (within frames word ≡ true) × Inside word × (leZ z word ≡ true)
+  pub if-none : ((z : ℤ) → within frames z ≡ true → Inside z → ⊥) → word ≡ noFrame
+  pub none-only : word ≡ noFrame → (z : ℤ) → within frames z ≡ true → Inside z → ⊥
+
+-- every word of a picture is the newest of some frames, where `Holds p` says that the point p is inside
+abbrev pub AllNewest : Rectangle → Span → (Point → Type 0) → List ℤ → Type 0
+AllNewest q frames Holds words =
+    (j i : ℕ) → j < sizeOf (codesOf q) → i < sizeOf (columnsOf q) → Newest frames (λ z. Holds (pointIn q j i z)) (pictureWord q words j i)
+
 -- a list made from the table for the window: the words that the call wrote, wherever they stand and whatever follows them
 pub record Made (t : List ℤ) (w : Window) (list : List ℕ) : Type 0 where
   pub before : List ℕ
@@ -137,6 +161,9 @@ pub record Faithful (t : List ℤ) (w : Window) (list : List ℕ) : Type 0 where
   pub refuses-frame : (samples : List ℤ) (place : Place) → frameRefusal samples place ≡ none
       → (k : ℕ) → k < length samples → SampleAt (OutOfWindow w) samples place k → ((j : ℕ) → j < k → SampleAt (InWindow w) samples place j)
       → {r : Searched} → ListSearched t list samples place r → toldSearched r ≡ refused (record { number = 10; value = k })
+  -- so with a picture: each word is the newest frame of the window at which the tree has its place
+  pub picture : (q : Rectangle) {before after : List ℤ} {r : Written} {n : ℕ} → PictureDrawn t list q before after r
+      → toldWritten r ≡ fine (wrote n) → AllNewest q (windowBox w .z) (InTree t) after
 
 -- exactly `count` of the positions below n are inside: `position` gives each of them once, rising
 pub record Counted (Inside : ℕ → Type 0) (n count : ℕ) : Type 0 where
@@ -187,6 +214,12 @@ pub record Promise2 : Type 0 where
       → take tripleWords (drop (tripleWords * j) after) ≡ tripleOf (toldSearched r)
   -- .. and no two answers of a search have the same three words.
   pub triples-apart : (r s : Searched) → tripleOf (toldSearched r) ≡ tripleOf (toldSearched s) → r ≡ s
+  -- So with the waterfall picture: where no rule of the call is broken a word for each place is written, ..
+  pub picture-writes : {t : List ℤ} {list : List ℕ} {q : Rectangle} {before after : List ℤ} {r : Written}
+      → PictureDrawn t list q before after r → waterfallRefusal t list q (length before) ≡ none → toldWritten r ≡ fine (wrote (pictureWords q))
+  -- .. and each is the newest frame of the list's window at which the list has its place.
+  pub picture-tells : {t : List ℤ} {list : List ℕ} {q : Rectangle} {before after : List ℤ} {r : Written} {n : ℕ}
+      → PictureDrawn t list q before after r → toldWritten r ≡ fine (wrote n) → AllNewest q (listWindow list .z) (InList t list) after
   -- Tree to text to tree is the same tree: the text of a sound table is written, where there is room for it, ..
   pub writes-text : {t : List ℤ} {before text : List ℕ} {r : Written} → TextWritten t before text r → tableRefusal t ≡ none
       → length (tableText t) ≤ length before → toldWritten r ≡ fine (wrote (length (tableText t)))

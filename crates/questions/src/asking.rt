@@ -1,4 +1,5 @@
 // The calls, asked and told.
+use crate::pictures;
 use comparing::Axes;
 use lines::Word;
 use lines::answers;
@@ -23,13 +24,15 @@ const LIST_SEARCH: usize = 15;
 
 const LIST_SEARCH_FRAMES: usize = 16;
 
-const MAKE_LIST: usize = 17;
+const LIST_WATERFALL: usize = 17;
 
-const WRITE_TEXT: usize = 18;
+const MAKE_LIST: usize = 18;
 
-const COMPARE: usize = 19;
+const WRITE_TEXT: usize = 19;
 
-fn point_of(n: [i32; 5]) -> Point {
+const COMPARE: usize = 20;
+
+fn point_of(n: [i32; 6]) -> Point {
     Point {
         x: n[0],
         y: n[1],
@@ -58,7 +61,7 @@ fn tell_list(table: &[i32], window: Window, list: &mut [u64], room: usize)
     tell_written(answer, list);
 }
 
-fn make_list(text: &[u8], window: usize, n: [i32; 5], table: &[i32]) -> bool {
+fn make_list(text: &[u8], window: usize, n: [i32; 6], table: &[i32]) -> bool {
     let room = numbers::size_of(n[0]);
     let of = numbers::size_of(n[1]);
     let bounds = numbers::read_window(text, window);
@@ -92,7 +95,7 @@ fn tell_text(table: &[i32], text: &mut [u8], room: usize)
     io::write_all(1, text);
 }
 
-fn write_text(table: &[i32], n: [i32; 5]) -> bool {
+fn write_text(table: &[i32], n: [i32; 6]) -> bool {
     let room = numbers::size_of(n[0]);
     let of = numbers::size_of(n[1]);
     if 512 < of {
@@ -125,7 +128,7 @@ fn tell_first(answer: Written, triples: &[u32; 16], of: usize)
 }
 
 // Searches a screenful into the first words of a buffer, and tells how that went and what the buffer holds.
-fn tell_triples(table: &[i32], list: &[u64], codes: &[i16], n: [i32; 5], room: usize, of: usize)
+fn tell_triples(table: &[i32], list: &[u64], codes: &[i16], n: [i32; 6], room: usize, of: usize)
     requires { ⌜ (room ≤ of) × (of ≤ 16) ⌝ }
 {
     let mut triples: [u32; 16] = [answers::FILL as u32; 16];
@@ -138,7 +141,7 @@ fn tell_triples(table: &[i32], list: &[u64], codes: &[i16], n: [i32; 5], room: u
     tell_first(answer, &triples, of);
 }
 
-fn search_frames(table: &[i32], list: &[u64], codes: &[i16], n: [i32; 5]) -> bool {
+fn search_frames(table: &[i32], list: &[u64], codes: &[i16], n: [i32; 6]) -> bool {
     let room = numbers::size_of(n[3]);
     let of = numbers::size_of(n[4]);
     if 16 < of {
@@ -155,7 +158,7 @@ fn search(
     text: &[u8],
     call: usize,
     frame: usize,
-    n: [i32; 5],
+    n: [i32; 6],
     table: &[i32],
     list: &[u64],
 ) -> bool {
@@ -182,7 +185,7 @@ fn search(
 }
 
 // Asks of the list, of a frame or of both.
-fn ask_more(text: &[u8], call: usize, held: &[usize; 11], n: [i32; 5], table: &[i32]) -> bool {
+fn ask_more(text: &[u8], call: usize, held: &[usize; 11], n: [i32; 6], table: &[i32]) -> bool {
     let mut words: [u64; 256] = [0; 256];
     let read = words::read_words(text, held[crate::LIST], &mut words);
     if !read.right {
@@ -193,6 +196,9 @@ fn ask_more(text: &[u8], call: usize, held: &[usize; 11], n: [i32; 5], table: &[
     if call == LIST_POINT {
         answers::located(zone::list_point(table, list, point_of(n)));
         return true;
+    }
+    if call == LIST_WATERFALL {
+        return pictures::draw(table, list, n);
     }
     search(text, call, held[crate::FRAME], n, table, list)
 }
@@ -208,13 +214,16 @@ fn numbers_of(call: usize) -> usize {
     if call == LIST_SEARCH_FRAMES {
         return 5;
     }
+    if call == LIST_WATERFALL {
+        return 6;
+    }
     if call <= WRITE_TEXT {
         return 2;
     }
-    6
+    7
 }
 
-fn tell(text: &[u8], call: usize, held: &[usize; 11], n: [i32; 5], table: &[i32]) -> bool {
+fn tell(text: &[u8], call: usize, held: &[usize; 11], n: [i32; 6], table: &[i32]) -> bool {
     if call == CHECK_TABLE {
         answers::checked(zone::check_table(table));
         return true;
@@ -242,7 +251,7 @@ pub fn ask(text: &[u8], word: Word, held: &[usize; 11], table: &[i32]) -> bool {
         };
         return comparing::compare(text, word.next, axes, table);
     }
-    let mut n: [i32; 5] = [0; 5];
+    let mut n: [i32; 6] = [0; 6];
     let read = numbers::read_numbers(text, word.next, &mut n, 0);
     if !read.right | (read.count != numbers_of(word.place)) {
         return false;

@@ -1,4 +1,4 @@
--- Cases 1 to 12, 16, 24 and 28 of docs/RULES.md, section 14: one table, and one theorem that all of them hold. Assumes nothing.
+-- Cases 1 to 12, 16, 24, 28, 31 and 32 of docs/RULES.md, section 14: one table, and one theorem that all of them hold. Assumes nothing.
 use Prim.Native.Nat.{ℕ}
 use mathlib.Core.Path.{_≡_, refl}
 use mathlib.Core.List.{List, [], _∷_, map, flatMap}
@@ -9,6 +9,7 @@ use Rattle.rules.specs.declared.Place.{Place}
 use Rattle.rules.specs.declared.Point.{Point}
 use Rattle.rules.specs.declared.Product.{Product}
 use Rattle.rules.specs.declared.Window.{Window}
+use Rattle.rules.specs.Ranges.{Span}
 use Rattle.rules.specs.Boxes.{fullRange}
 use Rattle.rules.specs.Table.{primitives}
 use Rattle.rules.specs.Verdict.{tableRefusal}
@@ -20,13 +21,15 @@ use Rattle.rules.specs.Products.{firsts, products}
 use Rattle.rules.specs.Refusals.{refuse}
 use Rattle.rules.specs.Told.{Told, fine, sound, inside as is-inside, outside, clear, hit, tell}
 use Rattle.rules.specs.TreeCalls.{treePointRefusal, pointTale, searchTale, treeSearchRefusal}
-use Rattle.rules.proofs.Zones.{q, qApart, farCuts, crossing, cutOfCut, swapped, wedge, drum, triangle, turnedRound, flat, twoBoxes, deepBox, banded, columnsOf, spot, at}
+use Rattle.rules.specs.Waterfall.{newest, placeWord}
+use Rattle.rules.proofs.Zones.{q, qApart, farCuts, crossing, cutOfCut, swapped, wedge, drum, triangle, turnedRound, flat, twoBoxes, deepBox, banded, layersLess, slope, columnsOf, spot, at}
 
 -- what the definitions say of a zone
 pub data Says : Type 0 where
   lists : List Product → Says
   expands : ℕ → Says
   tells : Told → Says
+  draws : ℤ → Says
 
 pub record Case : Type 0 where
   pub number : ℕ
@@ -47,6 +50,10 @@ search t first samples =
 
 abbrev check : List ℤ → Says
 check t = tells (tell (tableRefusal t) sound)
+
+-- the newest of the frames -20..5 at a column and a code
+abbrev place : List ℤ → ℕ → ℕ → Says
+place t x y = let frames : Span = record { lo = negsuc 19; hi = pos 5 } in draws (placeWord (inside (treeOf t)) frames (pos x) (pos y))
 
 abbrev product : ℕ → ℕ → Product
 product plain cuts = record { plain = plain; cuts = cuts }
@@ -121,8 +128,13 @@ cases =
     ∷ row 28 (search banded (pos 0) (pos 60 ∷ pos 61 ∷ [])) (isHit 1 1)
     ∷ row 28 (search banded (pos 0) (pos 61 ∷ pos 39 ∷ [])) (isHit 0 2)
     ∷ row 28 (search banded (pos 0) (pos 110 ∷ [])) isClear
+    ∷ row 31 (place slope 0 0) (draws (pos 3))
+    ∷ row 31 (place slope 2 2) (draws (pos 1))
+    ∷ row 31 (place slope 9 9) (draws (negsuc 12))
+    ∷ row 32 (place (layersLess (negsuc 2) (pos 0)) 0 0) (draws (negsuc 3))
+    ∷ row 32 (place (layersLess (negsuc 4) (negsuc 1)) 0 0) (draws (pos 0))
     ∷ []
 
 pub cases-hold : map (λ (c : Case). c .says) cases ≡ map (λ (c : Case). c .expected) cases
-unfolding tableRefusal trees inside firstInside insideCount choices _crossed-with_ firsts products from allOf anyOf keepIf countIf findIf firstOf selected placesWhere flatMap
+unfolding tableRefusal trees inside firstInside insideCount newest choices _crossed-with_ firsts products from allOf anyOf keepIf countIf findIf firstOf selected placesWhere flatMap
 cases-hold = refl

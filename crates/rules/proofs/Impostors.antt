@@ -6,7 +6,7 @@ use native.Mathlib.Omega.{arith}
 use mathlib.Core.List.{List, [], _∷_, _++_, map, flatMap, head-eq-of-cons-eq}
 use mathlib.Core.Path.{_≡_, refl, sym, ap, _∙_}
 use lib.Dec.{lit≤}
-use lib.IntN.{ℤ, pos, negsuc}
+use lib.IntN.{ℤ, pos, negsuc, natAbs}
 use lib.ListN.{length, getD, replicate}
 use Rattle.ground.specs.Bits.{selected, placesWhere}
 use Rattle.ground.specs.Lists.{from, allOf, anyOf, keepIf, countIf, findIf, firstOf}
@@ -17,6 +17,7 @@ use Rattle.rules.specs.declared.Located.the-variants as located
 use Rattle.rules.specs.declared.Place.{Place}
 use Rattle.rules.specs.declared.Primitive.{Primitive}
 use Rattle.rules.specs.declared.Product.{Product}
+use Rattle.rules.specs.declared.Rectangle.{Rectangle}
 use Rattle.rules.specs.declared.Refusal.{Refusal}
 use Rattle.rules.specs.declared.Searched.{Searched}
 use Rattle.rules.specs.declared.Searched.the-variants as searched
@@ -39,11 +40,13 @@ use Rattle.rules.specs.Text.{TextRow, decimalIn}
 use Rattle.rules.specs.TextForm.{spelt}
 use Rattle.rules.specs.Outcome.{over}
 use Rattle.rules.specs.TreeCalls.{TableChecked, TreeLocated, TreeSearched}
-use Rattle.rules.specs.ListCalls.{zoneList, ListMade, acceptRefusal, ListLocated, ListSearched, screenTriples, ScreenSearched}
+use Rattle.rules.specs.Waterfall.{noFrame, newest}
+use Rattle.rules.specs.ListCalls.{zoneList, ListMade, acceptRefusal, ListLocated, ListSearched, screenTriples, ScreenSearched, waterfall, PictureDrawn}
 use Rattle.rules.specs.TextCalls.{TextRead, tableText, TextWritten}
-use Rattle.rules.proofs.Zones.{nought, box, union, inter, diff, q, triangle, turnedRound, cornerCut, columnsOf, at}
+use Rattle.rules.proofs.Zones.{nought, box, union, inter, diff, q, triangle, turnedRound, cornerCut, layer, columnsOf, at}
 use Rattle.rules.proofs.Settled.{checked-settled, tree-located-settled, tree-searched-settled, list-made-settled}
-use Rattle.rules.proofs.Settled.{list-located-settled, list-searched-settled, screen-searched-settled, text-read-settled, text-written-settled}
+use Rattle.rules.proofs.Settled.{list-located-settled, list-searched-settled, screen-searched-settled, picture-drawn-settled}
+use Rattle.rules.proofs.Settled.{text-read-settled, text-written-settled}
 
 -- ---- the right outcomes at one input of each call: zone Q in columns -100..100, and the text of one box
 
@@ -102,6 +105,26 @@ pub right-screen : From (negsuc 0) (0 ∷ 0 ∷ 0 ∷ 1 ∷ 1 ∷ 2 ∷ 7 ∷ []
 unfolding tableRefusal listRefusal acceptRefusal insideProduct insideList firstInside insideCount screenTriples from allOf anyOf countIf findIf firstOf selected flatMap
 right-screen = record { answer = refl; buffer = refl }
 
+-- columns 0..9 at code 0 in frames -3..-1; their list for frames -4..-2; and the picture of columns 9 and 10 and codes 0 and 1
+abbrev layers : List ℤ
+layers = layer (negsuc 2) (negsuc 0)
+
+abbrev layersList : List ℕ
+layersList = 1 ∷ 0 ∷ 65535 ∷ 0 ∷ 65535 ∷ 1048572 ∷ 1048574 ∷ 1 ∷ 1 ∷ 0 ∷ []
+
+abbrev square : Rectangle
+square = record { xlo = pos 9; xhi = pos 10; ylo = nought; yhi = pos 1 }
+
+abbrev pictureRoom : List ℤ
+pictureRoom = replicate 5 (pos 7)
+
+abbrev Drawn : List ℤ → Written → Type 0
+Drawn = PictureDrawn layers layersList square pictureRoom
+
+pub right-picture : Drawn (noFrame ∷ noFrame ∷ negsuc 1 ∷ noFrame ∷ pos 7 ∷ []) (written.Wrote 4)
+unfolding tableRefusal listRefusal acceptRefusal insideProduct insideList newest waterfall from allOf anyOf countIf findIf firstOf selected flatMap
+right-picture = record { answer = refl; buffer = refl }
+
 abbrev oneBox : List ℤ
 oneBox = box nought (pos 9)
 
@@ -155,6 +178,9 @@ refuses-list-searches why h = let e = list-searched-settled h right-list-search 
 
 pub refuses-screens : (why : Refusal) {after : List ℕ} → From (negsuc 0) after (written.Refused why) → ⊥
 refuses-screens why h = let e = screen-searched-settled h right-screen .0 in never (cc)
+
+pub refuses-pictures : (why : Refusal) {after : List ℤ} → Drawn after (written.Refused why) → ⊥
+refuses-pictures why h = let e = picture-drawn-settled h right-picture .0 in never (cc)
 
 pub refuses-texts : (why : Refusal) {after : List ℤ} → TextRead boxText tableRoom after (written.Refused why) → ⊥
 refuses-texts why h = let e = text-read-settled h right-read .0 in never (cc)
@@ -272,6 +298,9 @@ list-untouched r h = let e = list-made-settled h right-make .1 in never (cc)
 
 pub screen-untouched : (r : Written) → From (negsuc 0) tripleRoom r → ⊥
 screen-untouched r h = let e : _≡_ {A = ℕ} 7 0 = head-eq-of-cons-eq (screen-searched-settled h right-screen .1) in omega arith
+
+pub picture-untouched : (r : Written) → Drawn pictureRoom r → ⊥
+picture-untouched r h = let e : _≡_ {A = ℕ} 7 2147483648 = ap natAbs (head-eq-of-cons-eq (picture-drawn-settled h right-picture .1)) in omega arith
 
 pub text-untouched : (r : Written) → TextWritten oneBox textRoom textRoom r → ⊥
 text-untouched r h = let e : _≡_ {A = ℕ} 7 122 = head-eq-of-cons-eq (text-written-settled h right-write .1) in omega arith
@@ -431,3 +460,21 @@ right-cornerCut = record { answer = refl; buffer = refl }
 
 pub cut-against-the-triangle : (r : Written) → ListMade cornerCut window room (listHeader 1 2 ++ (1 ∷ 0 ∷ 7 ∷ 7 ∷ [])) r → ⊥
 cut-against-the-triangle r h = let e : _≡_ {A = ℕ} 0 2 = ap (λ (list : List ℕ). getD list 9 0) (list-made-settled h right-cornerCut .1) in omega arith
+
+-- ---- ones that draw another frame, or draw it elsewhere: the newest of frames -4..-2 stands in word 2, and nowhere else
+
+word-of : (i : ℕ) {after : List ℤ} {r : Written} → Drawn after r → getD after i nought ≡ getD (noFrame ∷ noFrame ∷ negsuc 1 ∷ noFrame ∷ pos 7 ∷ []) i nought
+word-of i h = ap (λ (words : List ℤ). getD words i nought) (picture-drawn-settled h right-picture .1)
+
+pub picture-all-none : {after : List ℤ} {r : Written} → Drawn after r → getD after 2 nought ≡ noFrame → ⊥
+picture-all-none h is = let e : _≡_ {A = ℕ} 2147483648 2 = ap natAbs (sym is ∙ word-of 2 h) in omega arith
+
+pub picture-oldest : {after : List ℤ} {r : Written} → Drawn after r → getD after 2 nought ≡ negsuc 2 → ⊥
+picture-oldest h is = let e : _≡_ {A = ℕ} 3 2 = ap natAbs (sym is ∙ word-of 2 h) in omega arith
+
+-- the newest frame of the zone, which is past the window
+pub picture-past-the-window : {after : List ℤ} {r : Written} → Drawn after r → getD after 2 nought ≡ negsuc 0 → ⊥
+picture-past-the-window h is = let e : _≡_ {A = ℕ} 1 2 = ap natAbs (sym is ∙ word-of 2 h) in omega arith
+
+pub picture-lowest-code-first : {after : List ℤ} {r : Written} → Drawn after r → getD after 0 nought ≡ negsuc 1 → ⊥
+picture-lowest-code-first h is = let e : _≡_ {A = ℕ} 2 2147483648 = ap natAbs (sym is ∙ word-of 0 h) in omega arith

@@ -13,6 +13,7 @@ use Rattle.rules.specs.declared.Checked.{Checked}
 use Rattle.rules.specs.declared.Located.{Located}
 use Rattle.rules.specs.declared.Place.{Place}
 use Rattle.rules.specs.declared.Point.{Point}
+use Rattle.rules.specs.declared.Rectangle.{Rectangle}
 use Rattle.rules.specs.declared.Refusal.{Refusal}
 use Rattle.rules.specs.declared.Searched.{Searched}
 use Rattle.rules.specs.declared.Window.{Window}
@@ -30,7 +31,9 @@ use Rattle.rules.specs.Products.{products}
 use Rattle.rules.specs.Tree.{treeOf}
 use Rattle.rules.specs.TreeCalls.{TableChecked, TreeLocated, TreeSearched}
 use Rattle.rules.specs.Screen.{tripleWords}
+use Rattle.rules.specs.Waterfall.{pictureWords}
 use Rattle.rules.specs.ListCalls.{zoneList, makeRefusal, ListMade, ListLocated, ListSearched, screenTriples, screenRefusal, ScreenSearched}
+use Rattle.rules.specs.ListCalls.{waterfall, waterfallRefusal, PictureDrawn}
 use Rattle.rules.specs.TextCalls.{tableRead, formRefusal, readRefusal, TextRead, tableText, writeRefusal, TextWritten}
 use Rattle.rules.specs.Boxes.{fullRange}
 use Rattle.rules.specs.Listing.{listingRoom, printed, ZoneListed}
@@ -66,6 +69,10 @@ text-written-settled {r = r} {s = s} p q = (written-once r s (p .answer ∙ sym 
 pub screen-searched-settled : {t : List ℤ} {list : List ℕ} {codes : List ℤ} {frames : ℕ} {place : Place} {before a b : List ℕ} {r s : Written}
     → ScreenSearched t list codes frames place before a r → ScreenSearched t list codes frames place before b s → (r ≡ s) × (a ≡ b)
 screen-searched-settled {r = r} {s = s} p q = (written-once r s (p .answer ∙ sym (q .answer)), p .buffer ∙ sym (q .buffer))
+
+pub picture-drawn-settled : {t : List ℤ} {list : List ℕ} {q : Rectangle} {before a b : List ℤ} {r s : Written}
+    → PictureDrawn t list q before a r → PictureDrawn t list q before b s → (r ≡ s) × (a ≡ b)
+picture-drawn-settled {r = r} {s = s} p q = (written-once r s (p .answer ∙ sym (q .answer)), p .buffer ∙ sym (q .buffer))
 
 -- ---- a text stands in one way only
 
@@ -139,3 +146,8 @@ pub screen-searched-keeps : {t : List ℤ} {list : List ℕ} {codes : List ℤ} 
     → ScreenSearched t list codes frames place before after (Refused r) → after ≡ before
 screen-searched-keeps {t} {list} {codes} {frames} {place} {before} p =
     p .buffer ∙ keeps (screenRefusal t list codes frames (length before)) (tripleWords * frames) (screenTriples t list codes frames place) before (p .answer)
+
+pub picture-drawn-keeps : {t : List ℤ} {list : List ℕ} {q : Rectangle} {before after : List ℤ} {r : Refusal}
+    → PictureDrawn t list q before after (Refused r) → after ≡ before
+picture-drawn-keeps {t} {list} {q} {before} p =
+    p .buffer ∙ keeps (waterfallRefusal t list q (length before)) (pictureWords q) (waterfall t list q) before (p .answer)

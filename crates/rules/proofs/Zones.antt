@@ -89,6 +89,18 @@ twoBoxes = nine ++ nine
 abbrev pub deepBox : ℕ → List ℤ
 deepBox last = boxTo (pos last) nought (pos 9)
 
+-- columns 0..9 at code 0, in frames lo..hi
+abbrev pub layer : ℤ → ℤ → List ℤ
+layer lo hi = nought ∷ nought ∷ pos 9 ∷ nought ∷ nought ∷ lo ∷ hi ∷ nought ∷ nought ∷ nought ∷ nought ∷ nought ∷ []
+
+-- frames -10..0, less frames lo..hi
+abbrev pub layersLess : ℤ → ℤ → List ℤ
+layersLess lo hi = layer (negsuc 9) nought ++ (layer lo hi ++ diff 0 1)
+
+-- x + y + z <= 5 in x, y 0..10 and frames -20..3
+abbrev pub slope : List ℤ
+slope = pos 1 ∷ nought ∷ pos 10 ∷ nought ∷ pos 10 ∷ negsuc 19 ∷ pos 3 ∷ pos 1 ∷ pos 1 ∷ pos 1 ∷ pos 5 ∷ nought ∷ []
+
 -- a window of columns; its codes and frames are full
 abbrev pub columnsOf : ℤ → ℤ → Window
 columnsOf lo hi = record { xlo = lo; xhi = hi; ylo = codes .lo; yhi = codes .hi; zlo = frames .lo; zhi = frames .hi }

@@ -1,10 +1,10 @@
 -- Section 10 of docs/RULES.md: a frame's samples, and what a search finds among them.
 use Prim.Native.Nat.{ℕ, zero, suc}
 use mathlib.Core.Bool.{Bool, _||_}
-use mathlib.Core.List.{List, [], _∷_, map}
+use mathlib.Core.List.{List, [], _∷_}
 use mathlib.Core.Option.{Option}
 use lib.Dec.{eqb, ltb}
-use lib.IntN.{ℤ, pos, natAbs, _+ℤ_, _-ℤ_}
+use lib.IntN.{ℤ, pos, _+ℤ_, _-ℤ_}
 use lib.ListN.{length, getD}
 use lib.Signed.{ltZ}
 use Rattle.ground.specs.Lists.{below, allOf, anyOf, countIf, findIf, firstOf, rulings}
@@ -12,7 +12,7 @@ use Rattle.ground.specs.Tests.{if_then_else_}
 use Rattle.rules.specs.declared.Place.{Place}
 use Rattle.rules.specs.declared.Point.{Point}
 use Rattle.rules.specs.declared.Refusal.{Refusal}
-use Rattle.rules.specs.Ranges.{Span, within, columns, frames}
+use Rattle.rules.specs.Ranges.{Span, within, upwards, columns, frames}
 use Rattle.rules.specs.Boxes.{Box, holds}
 use Rattle.rules.specs.Refusals.{refuseIf, refuseUnless}
 
@@ -37,12 +37,8 @@ abbrev pub heldSpan : List ℤ → ℕ → Span
 heldSpan samples zero = record { lo = codeAt samples 0; hi = codeAt samples 0 }
 heldSpan samples (suc k) = fill (codeAt samples k) (codeAt samples (suc k))
 
--- the codes from the span's lo, rising, to its hi, which is not below
-abbrev pub codesOf : Span → List ℤ
-codesOf s = map (λ i. s .lo +ℤ pos i) (below (suc (natAbs (s .hi -ℤ s .lo))))
-
 abbrev pub heldCodes : List ℤ → ℕ → List ℤ
-heldCodes samples k = codesOf (heldSpan samples k)
+heldCodes samples k = upwards (heldSpan samples k)
 
 abbrev pub pointOf : Place → ℕ → ℤ → Point
 pointOf place k code = record { x = column place k; y = code; z = place .frame }

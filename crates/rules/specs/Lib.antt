@@ -18,6 +18,7 @@ pub mod Text
 pub mod TextForm
 pub mod Told
 pub mod Screen
+pub mod Waterfall
 pub mod Outcome
 pub mod TreeCalls
 pub mod ListCalls

@@ -14,6 +14,7 @@ use Rattle.rules.specs.declared.Axis.the-variants.{Column, Code, Frame}
 use Rattle.rules.specs.declared.Located.{Located}
 use Rattle.rules.specs.declared.Place.{Place}
 use Rattle.rules.specs.declared.Point.{Point}
+use Rattle.rules.specs.declared.Rectangle.{Rectangle}
 use Rattle.rules.specs.declared.Refusal.{Refusal}
 use Rattle.rules.specs.declared.Searched.{Searched}
 use Rattle.rules.specs.declared.Window.{Window}
@@ -31,6 +32,7 @@ use Rattle.rules.specs.Frame.{frameRefusal, leavesRefusal, firstInside, 
 use Rattle.rules.specs.Refusals.{refuseUnless, roomRefusal}
 use Rattle.rules.specs.Told.{Told, wrote, tell, toldLocated, toldSearched, toldWritten}
 use Rattle.rules.specs.Screen.{framesRefusal, frameAt, later, tripleWords, tripleOf}
+use Rattle.rules.specs.Waterfall.{pictureWords, rectangleRefusal, picture}
 use Rattle.rules.specs.Outcome.{leave}
 use Rattle.rules.specs.TreeCalls.{pointRefusal, pointTale, searchTale}
 
@@ -106,3 +108,16 @@ screenRefusal t list codes frames room =
 pub record ScreenSearched (t : List ℤ) (list : List ℕ) (codes : List ℤ) (frames : ℕ) (place : Place) (before after : List ℕ) (r : Written) : Type 0 where
   pub answer : toldWritten r ≡ tell (screenRefusal t list codes frames (length before)) (wrote (tripleWords * frames))
   pub buffer : after ≡ leave (screenRefusal t list codes frames (length before)) (screenTriples t list codes frames place) before
+
+-- the picture of a list: at each place the newest frame of the list's window
+unfoldable pub waterfall : List ℤ → List ℕ → Rectangle → List ℤ
+waterfall t list rectangle = picture (insideList (primitives t) list) (listWindow list .z) rectangle
+
+-- the waterfall picture of a list: those, 6 for the rectangle, 8
+abbrev pub waterfallRefusal : List ℤ → List ℕ → Rectangle → ℕ → Option Refusal
+waterfallRefusal t list rectangle room =
+    firstOf (acceptRefusal t list ∷ rectangleRefusal (listWindow list) rectangle ∷ roomRefusal (pictureWords rectangle) room ∷ [])
+
+pub record PictureDrawn (t : List ℤ) (list : List ℕ) (rectangle : Rectangle) (before after : List ℤ) (r : Written) : Type 0 where
+  pub answer : toldWritten r ≡ tell (waterfallRefusal t list rectangle (length before)) (wrote (pictureWords rectangle))
+  pub buffer : after ≡ leave (waterfallRefusal t list rectangle (length before)) (waterfall t list rectangle) before

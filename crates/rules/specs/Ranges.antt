@@ -1,8 +1,10 @@
 -- Section 1 of docs/RULES.md: points, and the range of each axis.
-use Prim.Native.Nat.{ℕ}
+use Prim.Native.Nat.{ℕ, suc}
 use mathlib.Core.Bool.{Bool, _&&_}
-use lib.IntN.{ℤ, pos, negsuc}
+use mathlib.Core.List.{List, map}
+use lib.IntN.{ℤ, pos, negsuc, natAbs, _+ℤ_, _-ℤ_}
 use lib.Signed.{leZ}
+use Rattle.ground.specs.Lists.{below}
 use Rattle.ground.specs.Tests.{if_then_else_}
 use Rattle.rules.specs.declared.Axis.{Axis}
 use Rattle.rules.specs.declared.Axis.the-variants.{Column, Code, Frame}
@@ -14,6 +16,16 @@ pub record Span : Type 0 where
 
 abbrev pub within : Span → ℤ → Bool
 within s v = leZ (s .lo) v && leZ v (s .hi)
+
+-- how many numbers a span has whose hi is not below its lo; the numbers themselves, from lo up; and from hi down
+abbrev pub sizeOf : Span → ℕ
+sizeOf s = suc (natAbs (s .hi -ℤ s .lo))
+
+abbrev pub upwards : Span → List ℤ
+upwards s = map (λ i. s .lo +ℤ pos i) (below (sizeOf s))
+
+abbrev pub downwards : Span → List ℤ
+downwards s = map (λ i. s .hi -ℤ pos i) (below (sizeOf s))
 
 abbrev pub lesser : ℤ → ℤ → ℤ
 lesser a b = if leZ a b then a else b

@@ -32,8 +32,12 @@ pub const CODE_OFFSET: u64 = GREATEST_CODE as u64 + 1;
 
 pub const FRAME_OFFSET: u64 = GREATEST_FRAME as u64 + 1;
 
-// A list: the words of its header, the word that holds its number of primitives, and the words of a product.
+// A list: the words of its header, the words that hold its lowest and highest frame and its number of primitives, and the words of a product.
 pub const HEADER_WORDS: usize = 8;
+
+pub const LOWEST_FRAME_WORD: usize = 5;
+
+pub const HIGHEST_FRAME_WORD: usize = 6;
 
 pub const PRIMITIVES_WORD: usize = 7;
 
@@ -49,6 +53,11 @@ pub const MOST_SAMPLES: usize = 65536;
 pub const MOST_FRAMES: usize = 500;
 
 pub const TRIPLE_WORDS: usize = 3;
+
+// The columns, and the codes, of a rectangle, and what stands in its picture where no frame is inside.
+pub const MOST_SIDE: i64 = 128;
+
+pub const NO_FRAME: i32 = -2147483648;
 
 pub const ROW_WORDS: usize = 12;
 
@@ -72,6 +81,15 @@ pub struct Window {
     pub yhi: i32,
     pub zlo: i32,
     pub zhi: i32,
+}
+
+// The columns and codes of a picture; both ends belong to it. C hands it over as it stands.
+#[repr(C)]
+pub struct Rectangle {
+    pub xlo: i32,
+    pub xhi: i32,
+    pub ylo: i32,
+    pub yhi: i32,
 }
 
 // Where a frame's samples stand: the column of sample 0, and the frame number.

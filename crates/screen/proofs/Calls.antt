@@ -1,25 +1,22 @@
 -- What the search of a screenful answers, from the rules that were kept or broken on the way. Assumes nothing.
 use Prim.Native.Nat.{ℕ, _*_, _≤_}
-use native.Mathlib.Nat.{zero-add}
-use native.Mathlib.Omega.{arith}
-use mathlib.Core.List.{List, [], _∷_, _++_}
+use mathlib.Core.List.{List, [], _∷_}
 use mathlib.Core.Option.{Option, none, some}
-use mathlib.Core.Path.{_≡_, sym, ap, _∙_}
+use mathlib.Core.Path.{_≡_, ap, _∙_}
 use borrow.Author.Tests.{leb-true}
 use lib.Dec.{leb}
 use lib.IntN.{ℤ}
-use lib.ListN.{length, drop}
-use lib.Seq.{sets, sets-eq}
+use lib.ListN.{length}
+use lib.Seq.{sets}
 use Rattle.ground.proofs.Counting.{first-broken, first-passed, first-kept}
 use Rattle.rules.specs.declared.Place.{Place}
 use Rattle.rules.specs.declared.Refusal.{Refusal}
 use Rattle.rules.specs.declared.Written.{Written}
 use Rattle.rules.specs.declared.Written.the-variants.{Wrote, Refused}
 use Rattle.rules.specs.ListCalls.{acceptRefusal, screenTriples, screenRefusal, ScreenSearched}
-use Rattle.rules.specs.Outcome.{leave}
 use Rattle.rules.specs.Refusals.{roomRefusal}
 use Rattle.rules.specs.Screen.{framesRefusal, tripleWords}
-use Rattle.rules.specs.Told.{wrote, tell}
+use Rattle.laws.proofs.Leaving.{Left, as-it-was, at-its-start}
 use Rattle.laws.proofs.Soundness.{unless-kept}
 use Rattle.says.specs.Checks.{Accepted}
 use Rattle.screen.specs.Shape.{shapeRefusal}
@@ -46,29 +43,20 @@ module _ (t : List ℤ) (list : List ℕ) (codes : List ℤ) (frames : ℕ) (pla
   abbrev Outcome : List ℕ → Written → Type 0
   Outcome = ScreenSearched t list codes frames place before
 
-  refused-by : {r : Refusal} → rule ≡ some r → Outcome before (Refused r)
-  refused-by h = record {
-    answer = sym (ap (λ (x : Option Refusal). tell x (wrote (tripleWords * frames))) h);
-    buffer = sym (ap (λ (x : Option Refusal). leave x words before) h);
-  }
+  by-left : {after : List ℕ} {r : Written} → Left rule (tripleWords * frames) words before after r → Outcome after r
+  by-left L = record { answer = L .answer; buffer = L .buffer }
 
   pub not-accepted : {r : Refusal} → acceptRefusal t list ≡ some r → Outcome before (Refused r)
-  not-accepted h = refused-by (first-broken (acceptRefusal t list) shape h)
+  not-accepted h = by-left (as-it-was rule (tripleWords * frames) words before (first-broken (acceptRefusal t list) shape h))
 
   module _ (A : Accepted t list) where
     past-accept : rule ≡ shapeRefusal codes frames (length before)
     past-accept = first-passed (acceptRefusal t list) shape (A .accepts)
 
     pub shape-wrong : {r : Refusal} → shapeRefusal codes frames (length before) ≡ some r → Outcome before (Refused r)
-    shape-wrong h = refused-by (past-accept ∙ h)
+    shape-wrong h = by-left (as-it-was rule (tripleWords * frames) words before (past-accept ∙ h))
 
     pub written : shapeRefusal codes frames (length before) ≡ none → {after : List ℕ} → after ≡ sets before 0 words → Outcome after (Wrote (tripleWords * frames))
     written right is =
-        let fine : rule ≡ none = past-accept ∙ right in
-        let size : length words ≡ tripleWords * frames = ap length (triples-all t list codes frames place) ∙ triples-length t list codes frames place frames in
-        let fits = shape-kept codes frames (length before) right .1 in
-        let whole = sets-eq words before 0 (omega (arith, size, fits)) ∙ ap (λ (n : ℕ). words ++ drop n before) (zero-add (length words)) in
-        record {
-          answer = sym (ap (λ (x : Option Refusal). tell x (wrote (tripleWords * frames))) fine);
-          buffer = is ∙ whole ∙ sym (ap (λ (x : Option Refusal). leave x words before) fine);
-        }
+        let size = ap length (triples-all t list codes frames place) ∙ triples-length t list codes frames place frames in
+        by-left (at-its-start rule (tripleWords * frames) words before (past-accept ∙ right) size (shape-kept codes frames (length before) right .1) is)

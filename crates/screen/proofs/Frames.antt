@@ -1,20 +1,18 @@
 -- The frames of a screenful: what the rules let pass, where each lies, and the words that tell of those so far. Assumes nothing.
 use Prim.Native.Nat.{ℕ, _+_, _*_, _%_, _≤_, _<_}
-use native.Mathlib.Nat.{div-add-mod', mul-le-mul-right}
+use native.Mathlib.Nat.{div-add-mod', mul-comm, mul-le-mul-right}
 use native.Mathlib.Omega.{arith}
 use mathlib.Core.Bool.{Bool, true, false, not, _||_}
-use mathlib.Core.List.{List, _++_, flatMap}
+use mathlib.Core.List.{List, flatMap}
 use mathlib.Core.Option.{none}
-use mathlib.Core.Path.{_≡_, refl, sym, ap, _∙_}
+use mathlib.Core.Path.{_≡_, refl, ap, _∙_}
 use borrow.Author.Tests.{eqb-true, eqb-false, ltb-false, not-false}
 use lib.Dec.{eqb, ltb}
 use lib.IntN.{ℤ}
 use lib.ListN.{length}
 use lib.Seq.{sets}
 use Rattle.ground.specs.Lists.{below}
-use Rattle.ground.proofs.Counting.{flatMap-next}
-use Rattle.ground.proofs.Writes.{sets-append}
-use Rattle.ground.proofs.Pieces.{all-each, from-length, pieces-length}
+use Rattle.ground.proofs.Writes.{made-pieces-length, piece-more}
 use Rattle.rules.specs.declared.Place.{Place}
 use Rattle.rules.specs.ListCalls.{frameTriple, screenTriples}
 use Rattle.rules.specs.Refusals.{refuse, refuseIf}
@@ -78,22 +76,17 @@ module _ (t : List ℤ) (list : List ℕ) (codes : List ℤ) (frames : ℕ) (pla
   abbrev pub triplesTo : ℕ → List ℕ
   triplesTo j = flatMap triple (below j)
 
-  triples-next : (j : ℕ) → triplesTo (j + 1) ≡ triplesTo j ++ triple j
-  triples-next j = flatMap-next triple j
+  each-triple : (j : ℕ) → length (triple j) ≡ tripleWords
+  each-triple = triple-length t list codes frames place
 
   pub triples-length : (j : ℕ) → length (triplesTo j) ≡ tripleWords * j
-  triples-length j =
-      let each = all-each (λ k. length (triple k) ≡ tripleWords) (triple-length t list codes frames place) (below j) in
-      omega (arith, pieces-length triple tripleWords (below j) each, from-length 0 j)
+  triples-length j = omega (arith, made-pieces-length triple tripleWords each-triple j)
 
   -- after those of the first j frames, the words of one more
   pub one-more : (before : List ℕ) (j : ℕ)
       → sets (sets before 0 (triplesTo j)) (tripleWords * j) (triple j) ≡ sets before 0 (triplesTo (j + 1))
   one-more before j =
-      let place : tripleWords * j ≡ 0 + length (triplesTo j) = omega (arith, triples-length j) in
-      ap (λ (at : ℕ). sets (sets before 0 (triplesTo j)) at (triple j)) place
-      ∙ sym (sets-append before 0 (triplesTo j) (triple j))
-      ∙ ap (sets before 0) (sym (triples-next j))
+      ap (λ (at : ℕ). sets (sets before 0 (triplesTo j)) at (triple j)) (mul-comm tripleWords j) ∙ piece-more triple tripleWords each-triple before j
 
   pub triples-all : screenTriples t list codes frames place ≡ triplesTo frames
   unfolding screenTriples

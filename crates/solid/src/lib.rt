@@ -13,7 +13,7 @@ ghost use lib.IntN.{natAbs, _+ℤ_, _-ℤ_, _*ℤ_};
 ghost use Rattle.rules.specs.declared.Primitive.the-variants as primitive;
 ghost use Rattle.rules.specs.Ranges.{within, lesser, greater, around, columns, codes, frames};
 ghost use Rattle.rules.specs.Boxes.{holds, everywhere};
-ghost use Rattle.rules.specs.Fields.{slopes, radii, wedgeRight, drumRight, cornerRight, triangleRight};
+ghost use Rattle.rules.specs.Fields.{slopes, radii, wedgeRight, drumRight, cornerRight, cornersRight, triangleRight};
 ghost use Rattle.rules.specs.Inside.{bounds, halfSpace, square, inEllipse, oneSided, insideWedge, insideDrum, insideTriangle, insideSolid};
 ghost use Rattle.rules.specs.Products.{boxOf};
 ghost use Rattle.rules.specs.Sides.{side};
@@ -62,7 +62,7 @@ pub fn past_ellipse(cx: i32, cy: i32, rx: i32, ry: i32, x: i32, y: i32) -> i64
     v * (dx * dx) + u * (dy * dy) - u * v
 }
 
-fn in_ellipse(cx: i32, cy: i32, rx: i32, ry: i32, x: i32, y: i32) -> bool
+pub fn in_ellipse(cx: i32, cy: i32, rx: i32, ry: i32, x: i32, y: i32) -> bool
     requires { ⌜ (within columns cx ≡ true) × (within codes cy ≡ true) ⌝ }
     requires { ⌜ (within radii rx ≡ true) × (within radii ry ≡ true) ⌝ }
     requires { ⌜ (within columns x ≡ true) × (within codes y ≡ true) ⌝ }
@@ -111,6 +111,18 @@ fn one_sided(u: i64, v: i64, w: i64) -> bool
     ((0 <= u) & ((0 <= v) & (0 <= w))) | ((u <= 0) & ((v <= 0) & (w <= 0)))
 }
 
+// On no edge's wrong side.
+pub fn in_corners(t: TriangleShape, x: i32, y: i32) -> bool
+    requires { ⌜ cornersRight t ≡ true ⌝ }
+    requires { ⌜ (within columns x ≡ true) × (within codes y ≡ true) ⌝ }
+    ensures { λ r. ⌜ r ≡ oneSided (side (t .first) (t .second) x y) (side (t .second) (t .third) x y) (side (t .third) (t .first) x y) ⌝ }
+{
+    let a = t.first;
+    let b = t.second;
+    let c = t.third;
+    one_sided(side(a, b, x, y), side(b, c, x, y), side(c, a, x, y))
+}
+
 fn in_triangle(t: TriangleShape, p: Point) -> bool
     requires { ⌜ triangleRight t ≡ true ⌝ }
     requires { ⌜ holds everywhere p ≡ true ⌝ }
@@ -120,14 +132,7 @@ fn in_triangle(t: TriangleShape, p: Point) -> bool
     if !framed {
         return false;
     }
-    let a = t.first;
-    let b = t.second;
-    let c = t.third;
-    one_sided(
-        side(a, b, p.x, p.y),
-        side(b, c, p.x, p.y),
-        side(c, a, p.x, p.y),
-    )
+    in_corners(t, p.x, p.y)
 }
 
 pub fn in_solid(s: Primitive, p: Point) -> bool

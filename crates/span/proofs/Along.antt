@@ -14,7 +14,7 @@ use mir.ValLaws.{toZ-ofZ}
 use Rattle.ground.proofs.Branches.{false-true, and-left, and-right, bool-both}
 use Rattle.ground.proofs.Order.{leb-same}
 use Rattle.rules.specs.declared.Axis.the-variants.{Frame}
-use Rattle.rules.specs.Ranges.{within, columns}
+use Rattle.rules.specs.Ranges.{within, frames}
 use Rattle.rules.specs.ListWords.{mostWord, raised}
 use Rattle.laws.proofs.Spaces.{and-swap}
 use Rattle.span.specs.declared.Stretch.{Stretch}
@@ -37,7 +37,7 @@ last = mostWord Frame
 pub whole-along : Along (λ v. true) (record { lo = 0; hi = last })
 whole-along = record { each = λ v l. sym (ap₂ _&&_ (le-leb 0 v (omega arith)) (le-leb v last (omega arith))) }
 
-pub axis-along : (lo hi : ℤ) → within columns lo ≡ true → within columns hi ≡ true
+pub axis-along : (lo hi : ℤ) → within frames lo ≡ true → within frames hi ≡ true
     → Along (λ v. within (record { lo = lo; hi = hi }) (value v)) (record { lo = raised Frame lo; hi = raised Frame hi })
 axis-along lo hi g h = record { each = λ v l. ap₂ _&&_ (from-place lo g v) (to-place hi h v) }
 

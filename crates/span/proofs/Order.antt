@@ -3,14 +3,12 @@ use Prim.Native.Nat.{ℕ, _+_, _-_, _≤_, _<_}
 use native.Mathlib.Omega.{arith}
 use mathlib.Core.Bool.{true}
 use mathlib.Core.Path.{_≡_, sym, ap, ap₂, _∙_}
-use borrow.Author.Tests.{leb-true, le-leb}
 use lib.Dec.{leb}
-use lib.IntN.{ℤ, pos, negsuc, natAbs, _+ℤ_, _-ℤ_, _*ℤ_, +ℤ-comm, +ℤ-idr}
+use lib.IntN.{ℤ, pos, natAbs, _+ℤ_, _-ℤ_, _*ℤ_, +ℤ-comm, +ℤ-idr}
 use lib.Signed.{leZ}
 use mir.Syntax.{w64}
 use mir.Val.{ofZ}
-use Rattle.ground.proofs.Branches.{and-left}
-use Rattle.ground.proofs.Differences.{Parts, parts, pos-parts, sub-parts, same-parts, abs-parts, differ, less-times, times-less, le-over, le-back}
+use Rattle.ground.proofs.Differences.{Parts, parts, pos-parts, add-parts, sub-parts, same-parts, abs-parts, differ, less-times, times-less, le-over, le-back}
 use Rattle.ground.proofs.Num.{Num, known, mul-num, sub-num}
 use Rattle.rules.specs.declared.Axis.the-variants.{Frame}
 use Rattle.rules.specs.declared.Corner.{Corner}
@@ -31,38 +29,43 @@ above = pos (offset Frame)
 pub value-parts : (v : ℕ) → Parts (value v) (v + 0) (0 + offset Frame)
 value-parts v = sub-parts (pos-parts v) (pos-parts (offset Frame))
 
+-- values further on and further back, and how far apart two are
+pub value-on : (v i : ℕ) → value v +ℤ pos i ≡ value (v + i)
+value-on v i = same-parts (add-parts (value-parts v) (pos-parts i)) (value-parts (v + i)) (omega arith)
+
+pub value-back : (v i : ℕ) → i ≤ v → value v -ℤ pos i ≡ value (v - i)
+value-back v i l = same-parts (sub-parts (value-parts v) (pos-parts i)) (value-parts (v - i)) (omega arith)
+
+pub values-apart : (lo hi : ℕ) → lo ≤ hi → natAbs (value hi -ℤ value lo) ≡ hi - lo
+values-apart lo hi l = omega (arith, abs-parts (sub-parts (value-parts hi) (value-parts lo)))
+
 -- s y <= e at the value y of place v
 pub line-place : (s e : ℤ) (v : ℕ) → leZ (s *ℤ value v) e ≡ leZ (s *ℤ pos v) (e +ℤ s *ℤ above)
 line-place s e v = ap (λ (z : ℤ). leZ z e) (times-less s (pos v) above) ∙ le-back (s *ℤ pos v) (s *ℤ above) e
 
--- codes are among the values that places stand for
-code-framed : (c : ℤ) → within columns c ≡ true → within frames c ≡ true
-code-framed (pos m) h = le-leb m 1048575 (omega (arith, leb-true m 32767 h))
-code-framed (negsuc m) h = rw (le-leb m 1048575 (omega (arith, leb-true m 32767 (and-left (leb m 32767) true h))))
+-- a value has a place, which stands for it
+pub place-below : (c : ℤ) → within frames c ≡ true → raised Frame c < places
+place-below c h = omega (arith, raised-most Frame c h)
 
--- a code has a place, which stands for it
-pub place-below : (c : ℤ) → within columns c ≡ true → raised Frame c < places
-place-below c h = omega (arith, raised-most Frame c (code-framed c h))
+pub place-back : (c : ℤ) → within frames c ≡ true → value (raised Frame c) ≡ c
+place-back c h = raised-back Frame c h
 
-pub place-back : (c : ℤ) → within columns c ≡ true → value (raised Frame c) ≡ c
-place-back c h = raised-back Frame c (code-framed c h)
-
--- a value and a code are as far apart as their places
-pub places-apart : (v : ℕ) (c : ℤ) → within columns c ≡ true → natAbs (value v -ℤ c) ≡ v - raised Frame c + (raised Frame c - v)
+-- two values are as far apart as their places
+pub places-apart : (v : ℕ) (c : ℤ) → within frames c ≡ true → natAbs (value v -ℤ c) ≡ v - raised Frame c + (raised Frame c - v)
 places-apart v c h =
-    let code : Parts c (raised Frame c + 0) (0 + offset Frame) = record { is = sym (place-back c h) ∙ value-parts (raised Frame c) .is } in
-    omega (arith, abs-parts (sub-parts (value-parts v) code))
+    let other : Parts c (raised Frame c + 0) (0 + offset Frame) = record { is = sym (place-back c h) ∙ value-parts (raised Frame c) .is } in
+    omega (arith, abs-parts (sub-parts (value-parts v) other))
 
-module _ (c : ℤ) (h : within columns c ≡ true) where
-  pub code-raised : pos (raised Frame c) ≡ c +ℤ above
-  code-raised = raised-adds Frame c (code-framed c h)
+module _ (c : ℤ) (h : within frames c ≡ true) where
+  pub value-raised : pos (raised Frame c) ≡ c +ℤ above
+  value-raised = raised-adds Frame c h
 
   module _ (v : ℕ) where
     pub from-place : leZ c (value v) ≡ leb (raised Frame c) v
-    from-place = sym (le-over above c (pos v)) ∙ ap (λ (z : ℤ). leZ z (pos v)) (+ℤ-comm above c ∙ sym code-raised)
+    from-place = sym (le-over above c (pos v)) ∙ ap (λ (z : ℤ). leZ z (pos v)) (+ℤ-comm above c ∙ sym value-raised)
 
     pub to-place : leZ (value v) c ≡ leb v (raised Frame c)
-    to-place = le-back (pos v) above c ∙ ap (leZ (pos v)) (sym code-raised)
+    to-place = le-back (pos v) above c ∙ ap (leZ (pos v)) (sym value-raised)
 
 -- ---- an edge: its side of a point by the point's code
 

@@ -17,6 +17,7 @@ use Rattle.rules.specs.Fields.{radii}
 use Rattle.rules.specs.Inside.{square, inEllipse}
 use Rattle.rules.specs.ListWords.{raised}
 use Rattle.rules.specs.Ranges.{within, columns}
+use Rattle.laws.proofs.Ranges.{framed}
 use Rattle.laws.proofs.InBox.{square-size}
 use Rattle.span.specs.Along.{value, between, near, ellipseLeft, Along, Root}
 use Rattle.span.proofs.Order.{places-apart}
@@ -94,7 +95,7 @@ module _ (cx cy rx ry x : ℤ) (kx : within radii rx ≡ true) (reach : within (
 
   pub ellipse-near : within columns cy ≡ true → {m : ℕ} → Root r2 (natAbs left) m → Along (λ v. inEllipse cx cy rx ry x (value v)) (near (raised Frame cy) m)
   ellipse-near h {m} R = record {
-    each = λ v l. by-code v ∙ rooted R (natAbs (value v -ℤ cy)) ∙ ap (λ (n : ℕ). leb n m) (places-apart v cy h) ∙ near-centre v (raised Frame cy) m;
+    each = λ v l. by-code v ∙ rooted R (natAbs (value v -ℤ cy)) ∙ ap (λ (n : ℕ). leb n m) (places-apart v cy (framed cy h)) ∙ near-centre v (raised Frame cy) m;
   }
     where
       by-code : (v : ℕ) → inEllipse cx cy rx ry x (value v) ≡ leb (r2 * (natAbs (value v -ℤ cy) * natAbs (value v -ℤ cy))) (natAbs left)

@@ -27,8 +27,8 @@ use Rattle.laws.proofs.Ranges.{second, third, not-flat}
 use Rattle.laws.proofs.Spaces.{not-less}
 use Rattle.laws.proofs.InBox.{box-holds}
 use Rattle.span.specs.declared.Stretch.{Stretch}
-use Rattle.span.specs.Along.{value, shared, Along, codePoint, beside, planeLeft, ahead}
-use Rattle.span.proofs.Along.{as-along, both-along, let-through}
+use Rattle.span.specs.Along.{value, Along, codePoint, beside, planeLeft, ahead}
+use Rattle.span.proofs.Along.{as-along, let-through}
 
 -- ---- out of reach: nothing is held of a column, or of a frame, that the primitive's box has not
 
@@ -62,9 +62,16 @@ module _ (w : WedgeShape) (p : Point) where
   by-code : (y : ℤ) → halfSpace (w .a) (w .b) (w .c) (w .d) (p .x) y (p .z) ≡ leZ (w .b *ℤ y) (planeLeft (w .a) (p .x) (w .c) (p .z) (w .d))
   by-code y = ap (λ (n : ℤ). leZ n (w .d)) (moved (w .a *ℤ p .x) (w .b *ℤ y) (w .c *ℤ p .z)) ∙ le-over (w .a *ℤ p .x +ℤ w .c *ℤ p .z) (w .b *ℤ y) (w .d)
 
-  pub wedge-meets : {ys slope : Stretch} → beside (bounds (w .bounds)) p ≡ true → Along (λ v. within (bounds (w .bounds) .y) (value v)) ys
-      → Along (λ v. leZ (w .b *ℤ value v) (planeLeft (w .a) (p .x) (w .c) (p .z) (w .d))) slope → Along (λ v. insideWedge w (codePoint p v)) (shared ys slope)
-  wedge-meets h Y S = both-along (box-meets (w .bounds) p h Y) (as-along (λ v l. by-code (value v)) S)
+  pub wedge-meets : {r : Stretch} → beside (bounds (w .bounds)) p ≡ true
+      → Along (λ v. within (bounds (w .bounds) .y) (value v) && leZ (w .b *ℤ value v) (planeLeft (w .a) (p .x) (w .c) (p .z) (w .d))) r
+      → Along (λ v. insideWedge w (codePoint p v)) r
+  wedge-meets h A =
+      as-along (λ v l. middle (within (bounds (w .bounds) .x) (p .x)) (within (bounds (w .bounds) .y) (value v)) (within (bounds (w .bounds) .z) (p .z)) _ _ h (by-code (value v))) A
+    where
+      middle : (x y z half given : Bool) → (x && z) ≡ true → half ≡ given → ((x && (y && z)) && half) ≡ (y && given)
+      middle true true z half given e same = ap₂ _&&_ e same
+      middle true false z half given e same = refl
+      middle false y z half given e same = false-true e
 
 -- ---- a triangle: its frames, and the sides of its three edges, which add up to twice its area
 

@@ -14,6 +14,8 @@ use Rattle.rules.specs.Inside.{square}
 use Rattle.rules.specs.ListWords.{mostWord, lowered}
 use Rattle.rules.specs.Ranges.{within}
 use Rattle.rules.specs.Sides.{side}
+use Rattle.span.specs.declared.Line.{Line}
+use Rattle.span.specs.declared.Line.the-variants.{Codes, Frames}
 use Rattle.span.specs.declared.Stretch.{Stretch}
 
 -- how many places a line has
@@ -44,11 +46,24 @@ near c m = record { lo = c - m; hi = c + m }
 abbrev pub codePoint : Point → ℕ → Point
 codePoint p v = record { x = p .x; y = value v; z = p .z }
 
+-- the points of a point's column and code, frame by frame
+abbrev pub framePoint : Point → ℕ → Point
+framePoint p v = record { x = p .x; y = p .y; z = value v }
+
+-- the points of a line through a point
+abbrev pub pointAt : Line → Point → ℕ → Point
+pointAt Codes p v = codePoint p v
+pointAt Frames p v = framePoint p v
+
 -- a point's column and frame are a box's
 abbrev pub beside : Box → Point → Bool
 beside b p = within (b .x) (p .x) && within (b .z) (p .z)
 
--- what is left of a half space's inequality for the code's part
+-- a point's column and code are a box's
+abbrev pub over : Box → Point → Bool
+over b p = within (b .x) (p .x) && within (b .y) (p .y)
+
+-- what is left of a half space's inequality for the part of the code, or of the frame, by the two other parts
 abbrev pub planeLeft : ℤ → ℤ → ℤ → ℤ → ℤ → ℤ
 planeLeft a x c z d = d -ℤ (a *ℤ x +ℤ c *ℤ z)
 

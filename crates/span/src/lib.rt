@@ -1,4 +1,4 @@
-// What a primitive holds of the codes of a column: every primitive is convex, so that it is one stretch of places.
+// What a primitive holds of a line of points, the codes of a column or the frames of a place: every primitive is convex, so that it is one stretch.
 use rules::BoxShape;
 use rules::Corner;
 use rules::DrumShape;
@@ -7,7 +7,7 @@ use rules::Primitive;
 use rules::TriangleShape;
 use rules::WedgeShape;
 ghost use Prim.Native.Nat.{_<_, _≤_, _*_, _+_, _-_, max, min};
-ghost use mathlib.Core.Bool.{true, false};
+ghost use mathlib.Core.Bool.{true, false, _&&_};
 ghost use mathlib.Core.Path.{_≡_};
 ghost use lib.IntN.{pos, natAbs, _+ℤ_, _-ℤ_, _*ℤ_};
 ghost use lib.Signed.{leZ};
@@ -21,13 +21,19 @@ ghost use Rattle.rules.specs.ListWords.{raised};
 ghost use Rattle.rules.specs.Products.{boxOf};
 ghost use Rattle.rules.specs.Sides.{side};
 ghost use Rattle.laws.specs.Sound.{solidRight};
-ghost use Rattle.span.specs.Along.{places, value, Along, shared, near, codePoint, beside, planeLeft, ellipseLeft, Root, ahead};
+ghost use Rattle.span.specs.Along.{places, value, Along, shared, near, codePoint, framePoint, pointAt, beside, over, planeLeft, ellipseLeft, Root, ahead};
 
 // What is added to a value to get its place.
 const OFFSET: i64 = rules::FRAME_OFFSET as i64;
 
 // The last place of a line.
 pub const LAST: u64 = 2 * rules::FRAME_OFFSET - 1;
+
+// Which way a line runs through a point: along the codes of its column and frame, or along the frames of its column and code.
+pub enum Line {
+    Codes,
+    Frames,
+}
 
 // The places lo..=hi of a line; none when lo exceeds hi.
 pub struct Stretch {
@@ -47,9 +53,9 @@ fn everything() -> Stretch
     Stretch { lo: 0, hi: LAST }
 }
 
-// The place of a code.
+// The place of a value.
 pub fn place_of(coordinate: i32) -> u64
-    requires { ⌜ within columns coordinate ≡ true ⌝ }
+    requires { ⌜ within frames coordinate ≡ true ⌝ }
     ensures { λ r. ⌜ r ≡ raised Frame coordinate ⌝ }
     ensures bounded { λ r. ⌜ r < places ⌝ }
 {
@@ -94,7 +100,7 @@ fn half(s: i64, e: i64) -> Stretch
 }
 
 // The places whose values y have s y <= e.
-fn line(s: i32, e: i64) -> Stretch
+fn half_values(s: i32, e: i64) -> Stretch
     requires { ⌜ (natAbs s ≤ 65536) × (natAbs e ≤ 100000000000) ⌝ }
     ensures { λ r. ⌜ Along (λ v. leZ (s *ℤ value v) e) r ⌝ }
 {
@@ -132,7 +138,7 @@ fn shared(a: Stretch, b: Stretch) -> Stretch
 
 // The places of the values lo..=hi.
 fn axis(lo: i32, hi: i32) -> Stretch
-    requires { ⌜ (within columns lo ≡ true) × (within columns hi ≡ true) ⌝ }
+    requires { ⌜ (within frames lo ≡ true) × (within frames hi ≡ true) ⌝ }
     ensures { λ r. ⌜ Along (λ v. within (record { lo = lo; hi = hi }) (value v)) r ⌝ }
 {
     Stretch {
@@ -167,6 +173,16 @@ fn plane_left(a: i32, x: i32, c: i32, z: i32, d: i32) -> i64
     (d as i64) - ((a as i64) * (x as i64) + (c as i64) * (z as i64))
 }
 
+// The places whose values v are lo..=hi and have sv <= d - (ax + cz).
+fn sloped(lo: i32, hi: i32, s: i32, a: i32, x: i32, c: i32, z: i32, d: i32) -> Stretch
+    requires { ⌜ (within frames lo ≡ true) × (within frames hi ≡ true) ⌝ }
+    requires { ⌜ (within slopes s ≡ true) × ((within slopes a ≡ true) × (within slopes c ≡ true)) ⌝ }
+    requires { ⌜ (within columns x ≡ true) × (within frames z ≡ true) ⌝ }
+    ensures { λ r. ⌜ Along (λ v. within (record { lo = lo; hi = hi }) (value v) && leZ (s *ℤ value v) (planeLeft a x c z d)) r ⌝ }
+{
+    shared(axis(lo, hi), half_values(s, plane_left(a, x, c, z, d)))
+}
+
 fn wedge_codes(w: WedgeShape, p: Point) -> Stretch
     requires { ⌜ wedgeRight w ≡ true ⌝ }
     requires { ⌜ holds everywhere p ≡ true ⌝ }
@@ -176,10 +192,7 @@ fn wedge_codes(w: WedgeShape, p: Point) -> Stretch
     if !beside_box(bounds, p) {
         return nothing();
     }
-    shared(
-        axis(bounds.ylo, bounds.yhi),
-        line(w.b, plane_left(w.a, p.x, w.c, p.z, w.d)),
-    )
+    sloped(bounds.ylo, bounds.yhi, w.b, w.a, p.x, w.c, p.z, w.d)
 }
 
 // The greatest m with r2 m² <= room, at most top, by halving between one that fits and one that does not.
@@ -271,7 +284,7 @@ fn edge(a: Corner, b: Corner, x: i32) -> Stretch
     requires { ⌜ within columns x ≡ true ⌝ }
     ensures { λ r. ⌜ Along (λ v. leZ (pos 0) (side a b x (value v))) r ⌝ }
 {
-    line(a.x - b.x, solid::side(a, b, x, 0))
+    half_values(a.x - b.x, solid::side(a, b, x, 0))
 }
 
 // The places of a column on the side >= 0 of three edges.
@@ -312,16 +325,115 @@ fn triangle_codes(t: TriangleShape, p: Point) -> Stretch
     edges(b, a, c, p.x)
 }
 
-// What a primitive holds of the codes of a point's column and frame.
-pub fn code_span(s: Primitive, p: Point) -> Stretch
+// The frames lo..=hi where a place is held, and none where it is not.
+fn frames_if(held: bool, lo: i32, hi: i32) -> Stretch
+    requires { ⌜ (within frames lo ≡ true) × (within frames hi ≡ true) ⌝ }
+    ensures { λ r. ⌜ Along (λ v. within (record { lo = lo; hi = hi }) (value v) && held) r ⌝ }
+{
+    if held {
+        return axis(lo, hi);
+    }
+    nothing()
+}
+
+fn over_box(b: BoxShape, p: Point) -> bool
+    ensures { λ r. ⌜ r ≡ over (bounds b) p ⌝ }
+{
+    ((b.xlo <= p.x) & (p.x <= b.xhi)) & ((b.ylo <= p.y) & (p.y <= b.yhi))
+}
+
+fn box_frames(b: BoxShape, p: Point) -> Stretch
+    requires { ⌜ boxRight b ≡ true ⌝ }
+    ensures { λ r. ⌜ Along (λ v. holds (bounds b) (framePoint p v)) r ⌝ }
+{
+    frames_if(over_box(b, p), b.zlo, b.zhi)
+}
+
+fn wedge_frames(w: WedgeShape, p: Point) -> Stretch
+    requires { ⌜ wedgeRight w ≡ true ⌝ }
+    requires { ⌜ holds everywhere p ≡ true ⌝ }
+    ensures { λ r. ⌜ Along (λ v. insideWedge w (framePoint p v)) r ⌝ }
+{
+    let bounds = w.bounds;
+    if !over_box(bounds, p) {
+        return nothing();
+    }
+    sloped(bounds.zlo, bounds.zhi, w.c, w.a, p.x, w.b, p.y, w.d)
+}
+
+fn drum_frames(d: DrumShape, p: Point) -> Stretch
+    requires { ⌜ drumRight d ≡ true ⌝ }
+    requires { ⌜ holds everywhere p ≡ true ⌝ }
+    ensures { λ r. ⌜ Along (λ v. insideDrum d (framePoint p v)) r ⌝ }
+{
+    frames_if(
+        solid::in_ellipse(d.cx, d.cy, d.rx, d.ry, p.x, p.y),
+        d.zlo,
+        d.zhi,
+    )
+}
+
+fn triangle_frames(t: TriangleShape, p: Point) -> Stretch
+    requires { ⌜ triangleRight t ≡ true ⌝ }
+    requires { ⌜ holds everywhere p ≡ true ⌝ }
+    ensures { λ r. ⌜ Along (λ v. insideTriangle t (framePoint p v)) r ⌝ }
+{
+    frames_if(solid::in_corners(t, p.x, p.y), t.zlo, t.zhi)
+}
+
+fn box_span(line: Line, b: BoxShape, p: Point) -> Stretch
+    requires { ⌜ boxRight b ≡ true ⌝ }
+    ensures { λ r. ⌜ Along (λ v. holds (bounds b) (pointAt line p v)) r ⌝ }
+{
+    match line {
+        Line::Codes => box_codes(b, p),
+        Line::Frames => box_frames(b, p),
+    }
+}
+
+fn wedge_span(line: Line, w: WedgeShape, p: Point) -> Stretch
+    requires { ⌜ wedgeRight w ≡ true ⌝ }
+    requires { ⌜ holds everywhere p ≡ true ⌝ }
+    ensures { λ r. ⌜ Along (λ v. insideWedge w (pointAt line p v)) r ⌝ }
+{
+    match line {
+        Line::Codes => wedge_codes(w, p),
+        Line::Frames => wedge_frames(w, p),
+    }
+}
+
+fn drum_span(line: Line, d: DrumShape, p: Point) -> Stretch
+    requires { ⌜ drumRight d ≡ true ⌝ }
+    requires { ⌜ holds everywhere p ≡ true ⌝ }
+    ensures { λ r. ⌜ Along (λ v. insideDrum d (pointAt line p v)) r ⌝ }
+{
+    match line {
+        Line::Codes => drum_codes(d, p),
+        Line::Frames => drum_frames(d, p),
+    }
+}
+
+fn triangle_span(line: Line, t: TriangleShape, p: Point) -> Stretch
+    requires { ⌜ triangleRight t ≡ true ⌝ }
+    requires { ⌜ holds everywhere p ≡ true ⌝ }
+    ensures { λ r. ⌜ Along (λ v. insideTriangle t (pointAt line p v)) r ⌝ }
+{
+    match line {
+        Line::Codes => triangle_codes(t, p),
+        Line::Frames => triangle_frames(t, p),
+    }
+}
+
+// What a primitive holds of a line through a point. Its kind is asked before the line's: it has just been read from a row.
+pub fn solid_span(line: Line, s: Primitive, p: Point) -> Stretch
     requires { ⌜ solidRight s ≡ true ⌝ }
     requires { ⌜ holds everywhere p ≡ true ⌝ }
-    ensures { λ r. ⌜ Along (λ v. insideSolid s (codePoint p v)) r ⌝ }
+    ensures { λ r. ⌜ Along (λ v. insideSolid s (pointAt line p v)) r ⌝ }
 {
     match s {
-        Primitive::Box(b) => box_codes(b, p),
-        Primitive::Wedge(w) => wedge_codes(w, p),
-        Primitive::Drum(d) => drum_codes(d, p),
-        Primitive::Triangle(t) => triangle_codes(t, p),
+        Primitive::Box(b) => box_span(line, b, p),
+        Primitive::Wedge(w) => wedge_span(line, w, p),
+        Primitive::Drum(d) => drum_span(line, d, p),
+        Primitive::Triangle(t) => triangle_span(line, t, p),
     }
 }

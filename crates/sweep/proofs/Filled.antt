@@ -12,27 +12,22 @@ use lib.IntN.{ℤ, pos, natAbs, _+ℤ_, _-ℤ_}
 use lib.Signed.{ltZ}
 use Rattle.ground.specs.Lists.{from, rest, below, anyOf}
 use Rattle.ground.specs.Tests.{if_then_else_}
-use Rattle.ground.proofs.Differences.{pos-parts, add-parts, sub-parts, same-parts, le-parts, abs-parts}
+use Rattle.ground.proofs.Differences.{le-parts}
 use Rattle.ground.proofs.Lists.{any-mapped}
 use Rattle.rules.specs.declared.Axis.the-variants.{Frame}
 use Rattle.rules.specs.declared.Place.{Place}
 use Rattle.rules.specs.declared.Point.{Point}
-use Rattle.rules.specs.Frame.{codeAt, pointOf, fill, codesOf, sampleInside}
+use Rattle.rules.specs.Frame.{codeAt, pointOf, fill, sampleInside}
 use Rattle.rules.specs.ListWords.{offset, raised}
-use Rattle.rules.specs.Ranges.{Span, within, columns}
+use Rattle.rules.specs.Ranges.{Span, within, upwards, columns}
+use Rattle.laws.proofs.Ranges.{framed}
 use Rattle.laws.proofs.Traces.{less-not, held-from}
 use Rattle.span.specs.declared.Stretch.{Stretch}
 use Rattle.span.specs.Along.{value, codePoint}
-use Rattle.span.proofs.Order.{place-back, value-parts}
+use Rattle.span.proofs.Order.{place-back, value-parts, value-on, value-back, values-apart}
 use Rattle.sweep.specs.Sweeps.{fillPlaces}
 
 -- ---- values of places
-
-value-on : (v i : ℕ) → value v +ℤ pos i ≡ value (v + i)
-value-on v i = same-parts (add-parts (value-parts v) (pos-parts i)) (value-parts (v + i)) (omega arith)
-
-value-back : (v : ℕ) → 1 ≤ v → value v -ℤ pos 1 ≡ value (v - 1)
-value-back v l = same-parts (sub-parts (value-parts v) (pos-parts 1)) (value-parts (v - 1)) (omega arith)
 
 lt-values : (a b : ℕ) → ltZ (value a) (value b) ≡ ltb a b
 lt-values a b = less-not (value a) (value b) ∙ ap not (le-parts (value-parts b) (value-parts a)) ∙ go (decLe b a)
@@ -43,9 +38,6 @@ lt-values a b = less-not (value a) (value b) ∙ ap not (le-parts (value-parts b
     go : Dec (b ≤ a) → not (leb (above b) (above a)) ≡ ltb a b
     go (yes l) = ap not (le-leb (above b) (above a) (omega arith)) ∙ sym (le-ltb a b l)
     go (no l) = ap not (lt-leb (above b) (above a) (omega arith)) ∙ sym (lt-ltb a b (omega arith))
-
-values-apart : (lo hi : ℕ) → lo ≤ hi → natAbs (value hi -ℤ value lo) ≡ hi - lo
-values-apart lo hi l = omega (arith, abs-parts (sub-parts (value-parts hi) (value-parts lo)))
 
 -- ---- what is filled
 
@@ -67,7 +59,7 @@ module _ (a b : ℕ) where
   fill-values : fill (value a) (value b) ≡ values (fillPlaces a b)
   fill-values =
       ap₂ slopes (lt-values a b) (lt-values b a)
-      ∙ by-slope (λ s t r. slopes s t ≡ values r) (λ l i. record { lo = value-on a 1 i; hi = value b }) (λ l i. record { lo = value b; hi = value-back a (omega arith) i }) refl
+      ∙ by-slope (λ s t r. slopes s t ≡ values r) (λ l i. record { lo = value-on a 1 i; hi = value b }) (λ l i. record { lo = value b; hi = value-back a 1 (omega arith) i }) refl
     where
       slopes : Bool → Bool → Span
       slopes s t = if s then record { lo = value a +ℤ pos 1; hi = value b } else (if t then record { lo = value b; hi = value a -ℤ pos 1 } else record { lo = value b; hi = value b })
@@ -88,7 +80,7 @@ any-shifted g lo start (suc n) =
     let on : lo + suc start ≡ suc (lo + start) = omega arith in
     ap (λ (b : Bool). g (lo + start) || b) (any-shifted g lo (suc start) n ∙ ap (λ (k : ℕ). anyOf g (from k n)) on)
 
-codes-any : (test : ℤ → Bool) (s : Stretch) → s .lo ≤ s .hi → anyOf test (codesOf (values s)) ≡ anyOf (λ v. test (value v)) (rest (s .lo) (s .hi + 1))
+codes-any : (test : ℤ → Bool) (s : Stretch) → s .lo ≤ s .hi → anyOf test (upwards (values s)) ≡ anyOf (λ v. test (value v)) (rest (s .lo) (s .hi + 1))
 codes-any test s l =
     let lo = s .lo in
     let hi = s .hi in
@@ -109,6 +101,6 @@ sample-places isInside samples place k g h =
     let a = codeAt samples (k - 1) in
     let b = codeAt samples k in
     let test : ℤ → Bool = λ code. isInside (pointOf place k code) in
-    ap (λ (s : Span). anyOf test (codesOf s))
-    (held-from samples k ∙ sym (ap₂ fill (place-back a g) (place-back b h)) ∙ fill-values (raised Frame a) (raised Frame b))
+    ap (λ (s : Span). anyOf test (upwards s))
+    (held-from samples k ∙ sym (ap₂ fill (place-back a (framed a g)) (place-back b (framed b h))) ∙ fill-values (raised Frame a) (raised Frame b))
     ∙ codes-any test (fillPlaces (raised Frame a) (raised Frame b)) (fill-rises (raised Frame a) (raised Frame b))

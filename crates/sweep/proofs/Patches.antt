@@ -13,12 +13,12 @@ use Rattle.rules.specs.declared.Axis.the-variants.{Frame}
 use Rattle.rules.specs.declared.Point.{Point}
 use Rattle.rules.specs.Boxes.{holds, everywhere}
 use Rattle.rules.specs.ListWords.{raised}
-use Rattle.laws.proofs.Ranges.{x-in}
+use Rattle.laws.proofs.Ranges.{framed, x-in}
 use Rattle.span.specs.declared.Stretch.{Stretch}
 use Rattle.span.specs.Along.{value, codePoint}
 use Rattle.span.proofs.Order.{place-back}
 use Rattle.margin.specs.Margins.{spot}
-use Rattle.column.proofs.Walks.{none-there, one-there}
+use Rattle.along.proofs.Walks.{none-there, one-there}
 use Rattle.sweep.specs.declared.Patch.{Patch}
 use Rattle.sweep.specs.Sweeps.{fillPlaces, Known, telling, withHit}
 use Rattle.sweep.proofs.Filled.{fill-rises}
@@ -67,7 +67,7 @@ pub told-any : (isInside : Point → Bool) (p : Point) (before : ℕ) → holds 
 told-any isInside p before h q K t =
     let s = fillPlaces before (raised Frame (p .y)) in
     sym (told isInside (p .z) q K (raised Frame (p .x)) s (fill-rises before (raised Frame (p .y))) t)
-    ∙ ap (λ (u : ℤ). anyOf (λ v. isInside (record { x = u; y = value v; z = p .z })) (rest (s .lo) (s .hi + 1))) (place-back (p .x) (x-in p h))
+    ∙ ap (λ (u : ℤ). anyOf (λ v. isInside (record { x = u; y = value v; z = p .z })) (rest (s .lo) (s .hi + 1))) (place-back (p .x) (framed (p .x) (x-in p h)))
 
 pub known-hit : {isInside : Point → Bool} {z : ℤ} {q r : Patch} {h : Bool} → r ≡ withHit q h → Known isInside z q → Known isInside z r
 known-hit {isInside} {z} e K = subst (Known isInside z) (sym e) (record { some-code = K .some-code; each = K .each })

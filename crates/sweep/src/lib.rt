@@ -3,8 +3,9 @@ use frame::Tally;
 use rules::Place;
 use rules::Point;
 use says::Asked;
+use span::Line;
 use span::Stretch;
-ghost use Prim.Native.Nat.{_+_, _<_};
+ghost use Prim.Native.Nat.{_+_, _<_, _≤_};
 ghost use mathlib.Core.Bool.{true};
 ghost use mathlib.Core.Option.{none};
 ghost use mathlib.Core.Path.{_≡_};
@@ -18,7 +19,7 @@ ghost use Rattle.rules.specs.Ranges.{within, columns};
 ghost use Rattle.frame.specs.Tallies.{Tallied};
 ghost use Rattle.span.specs.Along.{places, codePoint};
 ghost use Rattle.says.specs.Asking.{insideBy, Ready};
-ghost use Rattle.column.specs.Lines.{Roomy};
+ghost use Rattle.along.specs.Lines.{Roomy};
 ghost use Rattle.sweep.specs.Sweeps.{fillPlaces, Known, telling, withHit};
 
 // A column that holds more codes than these is walked at once: a patch would hardly tell of it.
@@ -132,6 +133,40 @@ fn fresh(asked: Asked, table: &[i32], list: &[u64], p: Point, s: Stretch, q: Pat
     renewed(asked, table, list, p)
 }
 
+// Some code at the places from .. to - 1 of a point's column is inside.
+fn some_inside(
+    asked: Asked,
+    table: &[i32],
+    list: &[u64],
+    p: Point,
+    from: u64,
+    to: u64,
+    marks: &mut [u64],
+    los: &mut [u64],
+    his: &mut [u64],
+) -> bool
+    requires { ⌜ Ready asked (now table) (now list) ⌝ }
+    requires { ⌜ holds everywhere p ≡ true ⌝ }
+    requires { ⌜ (from ≤ to) × (to ≤ places) ⌝ }
+    requires { ⌜ Roomy (now marks) (now los) (now his) ⌝ }
+    ensures { λ r. ⌜ r ≡ anyOf (λ v. insideBy asked (now (table .entry)) (now (list .entry)) (codePoint p v)) (rest from to) ⌝ }
+    ensures room { λ r. ⌜ Roomy (now (marks .exit)) (now (los .exit)) (now (his .exit)) ⌝ }
+{
+    from
+        < along::highest_inside(
+            asked,
+            table,
+            list,
+            Line::Codes,
+            p,
+            from,
+            to,
+            marks,
+            los,
+            his,
+        )
+}
+
 // One column: from the patch that is there, else from a new one, else by the walk down the column.
 fn look(
     asked: Asked,
@@ -162,7 +197,7 @@ fn look(
     if tells(n, x, s) {
         return with_hit(n, n.inside);
     }
-    let hit = column::some_inside(asked, table, list, p, s.lo, s.hi + 1, marks, los, his);
+    let hit = some_inside(asked, table, list, p, s.lo, s.hi + 1, marks, los, his);
     with_hit(n, hit)
 }
 

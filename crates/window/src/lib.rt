@@ -27,7 +27,7 @@ pub fn everywhere() -> Window
 }
 
 // A value lies from lo to hi.
-fn between(lo: i32, v: i32, hi: i32) -> bool
+pub fn between(lo: i32, v: i32, hi: i32) -> bool
     ensures { λ r. ⌜ r ≡ within (record { lo = lo; hi = hi }) v ⌝ }
 {
     (lo <= v) & (v <= hi)

@@ -3,10 +3,11 @@ use rules::Checked;
 use rules::Located;
 use rules::Place;
 use rules::Point;
+use rules::Rectangle;
 use rules::Searched;
 use rules::Window;
 use rules::Written;
-ghost use Rattle.rules.specs.ListCalls.{ListMade, ListLocated, ListSearched, ScreenSearched};
+ghost use Rattle.rules.specs.ListCalls.{ListMade, ListLocated, ListSearched, ScreenSearched, PictureDrawn};
 ghost use Rattle.rules.specs.TextCalls.{TextRead, TextWritten};
 ghost use Rattle.rules.specs.TreeCalls.{TableChecked, TreeLocated, TreeSearched};
 
@@ -71,6 +72,21 @@ pub fn list_search_frames(
     ensures { λ r. ⌜ ScreenSearched (now (table .entry)) (now (list .entry)) (now (codes .entry)) frames place (now (triples .entry)) (now (triples .exit)) r ⌝ }
 {
     screen::list_search_frames(table, list, codes, frames, place, triples)
+}
+
+// Writes the waterfall picture of a rectangle of columns and codes, one word a place, row by row from the highest code down, columns rising: the newest
+// frame, which is the largest of the list's window at which the point is inside the list, or -2147483648 where there is none. Says how many words that
+// took; the words beyond stay. Refusals: the table's; 9 and 11 for the list; 6 with the rectangle's first bad bound, xlo, xhi, ylo, yhi as 0 to 3, that is
+// out of the list's window, or a hi that is below its lo or over 127 more; 8 with the words needed.
+pub fn list_waterfall(
+    table: &[i32],
+    list: &[u64],
+    rectangle: Rectangle,
+    picture: &mut [i32],
+) -> Written
+    ensures { λ r. ⌜ PictureDrawn (now (table .entry)) (now (list .entry)) rectangle (now (picture .entry)) (now (picture .exit)) r ⌝ }
+{
+    waterfall::list_waterfall(table, list, rectangle, picture)
 }
 
 // Reads zone text into a table and says how many words it took; the words beyond stay. Refusals: 13 with the first faulty line, or with 0 where

@@ -16,12 +16,13 @@ use Rattle.rules.specs.declared.Place.{Place}
 use Rattle.rules.specs.declared.Point.{Point}
 use Rattle.rules.specs.declared.Searched.{Searched}
 use Rattle.rules.specs.declared.Searched.the-variants as searched
+use Rattle.rules.specs.declared.Rectangle.{Rectangle}
 use Rattle.rules.specs.declared.Window.{Window}
 use Rattle.rules.specs.declared.Written.{Written}
 use Rattle.rules.specs.declared.Written.the-variants as written
 use Rattle.rules.specs.Told.{Told, refused, toldChecked, toldLocated, toldSearched, toldWritten}
 use Rattle.rules.specs.TreeCalls.{TableChecked, TreeLocated, TreeSearched}
-use Rattle.rules.specs.ListCalls.{ListMade, ListLocated, ListSearched, ScreenSearched}
+use Rattle.rules.specs.ListCalls.{ListMade, ListLocated, ListSearched, ScreenSearched, PictureDrawn}
 use Rattle.rules.specs.TextCalls.{TextRead, TextWritten}
 use Rattle.promises.specs.Possible.{Possible}
 use Rattle.promises.proofs.Possible as law
@@ -91,6 +92,9 @@ list-search-readable t list samples place = readable searched-back (λ r. law.li
 pub list-search-frames-readable : (t : List ℤ) (list : List ℕ) (codes : List ℤ) (frames : ℕ) (place : Place) (before after : List ℕ)
     → Readable toldWritten readWritten (ScreenSearched t list codes frames place before after)
 list-search-frames-readable t list codes frames place before after = readable written-back (λ r. law.list-search-frames-possible)
+
+pub list-waterfall-readable : (t : List ℤ) (list : List ℕ) (q : Rectangle) (before after : List ℤ) → Readable toldWritten readWritten (PictureDrawn t list q before after)
+list-waterfall-readable t list q before after = readable written-back (λ r. law.list-waterfall-possible)
 
 pub read-text-readable : (text : List ℕ) (before after : List ℤ) → Readable toldWritten readWritten (TextRead text before after)
 read-text-readable text before after = readable written-back (λ r. law.read-text-possible)

@@ -5,10 +5,11 @@ use mathlib.Core.Path.{_≡_, sym, ap, _∙_}
 use lib.IntN.{ℤ}
 use Rattle.rules.specs.declared.Place.{Place}
 use Rattle.rules.specs.declared.Point.{Point}
+use Rattle.rules.specs.declared.Rectangle.{Rectangle}
 use Rattle.rules.specs.declared.Window.{Window}
 use Rattle.rules.specs.Told.{Told, toldChecked, toldLocated, toldSearched, toldWritten}
 use Rattle.rules.specs.TreeCalls.{TableChecked, TreeLocated, TreeSearched}
-use Rattle.rules.specs.ListCalls.{ListMade, ListLocated, ListSearched, ScreenSearched}
+use Rattle.rules.specs.ListCalls.{ListMade, ListLocated, ListSearched, ScreenSearched, PictureDrawn}
 use Rattle.rules.specs.TextCalls.{TextRead, TextWritten}
 use Rattle.rules.proofs.Settled as outcome
 use Rattle.answer_c.specs.declared.Answer.{Answer}
@@ -47,6 +48,11 @@ pub list-search-frames-settled : {t : List ℤ} {list : List ℕ} {codes : List 
     → Answered toldWritten (ScreenSearched t list codes frames place before m) a → Answered toldWritten (ScreenSearched t list codes frames place before n) b
     → (a ≡ b) × (m ≡ n)
 list-search-frames-settled p q = let once = outcome.screen-searched-settled (p .kept) (q .kept) in (same-answer p q (once .0), once .1)
+
+pub list-waterfall-settled : {t : List ℤ} {list : List ℕ} {q : Rectangle} {before m n : List ℤ} {a b : Answer}
+    → Answered toldWritten (PictureDrawn t list q before m) a → Answered toldWritten (PictureDrawn t list q before n) b
+    → (a ≡ b) × (m ≡ n)
+list-waterfall-settled p q = let once = outcome.picture-drawn-settled (p .kept) (q .kept) in (same-answer p q (once .0), once .1)
 
 pub read-text-settled : {text : List ℕ} {before m n : List ℤ} {a b : Answer}
     → Answered toldWritten (TextRead text before m) a → Answered toldWritten (TextRead text before n) b → (a ≡ b) × (m ≡ n)

@@ -2,10 +2,11 @@
 use answer_c::Answer;
 use rules::Place;
 use rules::Point;
+use rules::Rectangle;
 use rules::Window;
 ghost use Rattle.rules.specs.Told.{toldChecked, toldLocated, toldSearched, toldWritten};
 ghost use Rattle.rules.specs.TreeCalls.{TableChecked, TreeLocated, TreeSearched};
-ghost use Rattle.rules.specs.ListCalls.{ListMade, ListLocated, ListSearched, ScreenSearched};
+ghost use Rattle.rules.specs.ListCalls.{ListMade, ListLocated, ListSearched, ScreenSearched, PictureDrawn};
 ghost use Rattle.rules.specs.TextCalls.{TextRead, TextWritten};
 ghost use Rattle.zone_c.specs.Answered.{Answered};
 ghost use Rattle.zone_c.specs.Lent.{point, place};
@@ -96,6 +97,19 @@ pub extern "C" fn lampholly_list_search_frames(
         Place { first, frame },
         triples,
     ))
+}
+
+// zone::list_waterfall: the newest frame at each place of a rectangle, by a list.
+#[no_mangle]
+pub extern "C" fn lampholly_list_waterfall(
+    table: &[i32],
+    list: &[u64],
+    rectangle: Rectangle,
+    picture: &mut [i32],
+) -> Answer
+    ensures { λ r. ⌜ Answered toldWritten (PictureDrawn (now (table .entry)) (now (list .entry)) rectangle (now (picture .entry)) (now (picture .exit))) r ⌝ }
+{
+    answer_c::of_written(zone::list_waterfall(table, list, rectangle, picture))
 }
 
 // zone::read_text: reads zone text into a table.

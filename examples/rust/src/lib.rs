@@ -1,11 +1,15 @@
-//! Lampholly from Rust: the nine calls of `include/lampholly.h`, declared once and wrapped. Slices go in, an enum comes out; its
+//! Lampholly from Rust: the ten calls of `include/lampholly.h`, declared once and wrapped. Slices go in, an enum comes out; its
 //! cases are those of the library's own answers. The header says what each call does and when it refuses.
 
-/// The words or bytes that always suffice for a table, a list, a text and the triples of a screenful.
+/// The words or bytes that always suffice for a table, a list, a text, the triples of a screenful and a picture.
 pub const TABLE_WORDS: usize = 1524;
 pub const LIST_WORDS: usize = 131_080;
 pub const TEXT_BYTES: usize = 16_384;
 pub const TRIPLE_WORDS: usize = 1500;
+pub const PICTURE_WORDS: usize = 16_384;
+
+/// What stands in a picture where no frame is inside.
+pub const NO_FRAME: i32 = i32::MIN;
 
 /// Both bounds of an axis belong to the window.
 #[repr(C)]
@@ -29,6 +33,16 @@ impl Window {
         zlo: -1048576,
         zhi: 1048575,
     };
+}
+
+/// The columns and codes of a picture; both bounds of a side belong to it.
+#[repr(C)]
+#[derive(Clone, Copy, Debug, PartialEq, Eq)]
+pub struct Rectangle {
+    pub xlo: i32,
+    pub xhi: i32,
+    pub ylo: i32,
+    pub yhi: i32,
 }
 
 /// Column, code and frame number.
@@ -196,6 +210,27 @@ pub fn told(triples: &[u32]) -> impl Iterator<Item = Searched> + '_ {
     })
 }
 
+/// Writes for each place of the rectangle the newest frame of the list's window, or [`NO_FRAME`], row by row from the highest
+/// code down. The list belongs to its table, as for [`list_point`].
+pub fn list_waterfall(
+    table: &[i32],
+    list: &[u64],
+    rectangle: Rectangle,
+    picture: &mut [i32],
+) -> Written {
+    written(unsafe {
+        calls::lampholly_list_waterfall(
+            table.as_ptr(),
+            table.len(),
+            list.as_ptr(),
+            list.len(),
+            rectangle,
+            picture.as_mut_ptr(),
+            picture.len(),
+        )
+    })
+}
+
 pub fn read_text(text: &[u8], table: &mut [i32]) -> Written {
     written(unsafe {
         calls::lampholly_read_text(text.as_ptr(), text.len(), table.as_mut_ptr(), table.len())
@@ -232,7 +267,7 @@ fn written(answer: calls::Answer) -> Written {
 }
 
 mod calls {
-    use super::{Refusal, Window};
+    use super::{Rectangle, Refusal, Window};
 
     #[repr(C)]
     pub struct Answer {
@@ -321,6 +356,15 @@ mod calls {
             first: i32,
             frame: i32,
             triples: *mut u32,
+            room: usize,
+        ) -> Answer;
+        pub fn lampholly_list_waterfall(
+            table: *const i32,
+            words: usize,
+            list: *const u64,
+            list_words: usize,
+            rectangle: Rectangle,
+            picture: *mut i32,
             room: usize,
         ) -> Answer;
     }
@@ -445,6 +489,38 @@ mod tests {
         let answer = screenful(&zeros[..60], 2, START, &mut triples[..5]);
         assert_eq!(answer, Written::Refused(refused(8, 6)));
         assert_eq!(triples, [9; TRIPLE_WORDS]);
+    }
+
+    #[test]
+    fn draws_q() {
+        let (table, list) = (q(), q_list());
+        let mut picture = [7; 13];
+        let rectangle = Rectangle {
+            xlo: 7,
+            xhi: 10,
+            ylo: -1,
+            yhi: 1,
+        };
+        let mut right = [NO_FRAME; 13];
+        (right[5], right[12]) = (0, 7);
+        assert_eq!(
+            list_waterfall(&table, &list, rectangle, &mut picture[..11]),
+            Written::Refused(refused(8, 12))
+        );
+        assert_eq!(picture, [7; 13]);
+        assert_eq!(
+            list_waterfall(&table, &list, rectangle, &mut picture),
+            Written::Wrote(12)
+        );
+        assert_eq!(picture, right);
+        let wide = Rectangle {
+            xhi: 135,
+            ..rectangle
+        };
+        assert_eq!(
+            list_waterfall(&table, &list, wide, &mut picture),
+            Written::Refused(refused(6, 1))
+        );
     }
 
     #[test]

@@ -2,7 +2,8 @@ use mathlib.Core.Path.{sym, _∙_}
 use borrow.Author.Needs.{needs}
 use Rattle.rules.specs.ListCalls.{acceptRefusal}
 use Rattle.laws.proofs.Telling.{went-on, stopped}
-use Rattle.answer.proofs.Calls.{accepted, point-refused}
+use Rattle.says.proofs.Asking.{accepted}
+use Rattle.answer.proofs.Calls.{point-refused}
 use Rattle.answer.proofs.list_point.Statement.{statement}
 use Rattle.answer.proofs.list_point.Tie as tie
 

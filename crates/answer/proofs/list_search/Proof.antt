@@ -2,7 +2,8 @@ use mathlib.Core.Path.{sym, _∙_}
 use borrow.Author.Needs.{needs}
 use Rattle.rules.specs.ListCalls.{acceptRefusal}
 use Rattle.laws.proofs.Telling.{went-on, stopped}
-use Rattle.answer.proofs.Calls.{accepted, search-refused}
+use Rattle.says.proofs.Asking.{accepted}
+use Rattle.answer.proofs.Calls.{search-refused}
 use Rattle.answer.proofs.list_search.Statement.{statement}
 use Rattle.answer.proofs.list_search.Tie as tie
 

@@ -8,8 +8,8 @@ use mir.ValLaws.{toZ-ofZ}
 use Rattle.ground.proofs.Signed.{reread}
 use Rattle.rules.specs.declared.Axis.the-variants.{Frame}
 use Rattle.rules.specs.ListWords.{raised}
-use Rattle.rules.specs.Ranges.{within, columns}
-use Rattle.laws.proofs.Ranges.{x-in, y-in}
+use Rattle.rules.specs.Ranges.{within, frames}
+use Rattle.laws.proofs.Ranges.{framed, x-in, y-in}
 use Rattle.span.specs.Along.{places}
 use Rattle.span.proofs.Order.{place-below}
 use Rattle.calm.specs.declared.Edges.{Edges}
@@ -38,10 +38,10 @@ edges-of-requires c κs =
     bounds-ranged (b .before .args .s) (b .before .pre .0) (b .box-of .result) (b .box-of .ensures)
 
 place-of-requires : tie.Need-place-of-requires
-place-of-requires c κs = let s = c .before .before .before .before .before in reread w32 (within columns) (fits s .x) (x-in (s .args .p) (s .pre .1 .0))
+place-of-requires c κs = let s = c .before .before .before .before .before in reread w32 (within frames) (fits s .x) (framed (s .args .p .x) (x-in (s .args .p) (s .pre .1 .0)))
 
 place-of-requires-2 : tie.Need-place-of-requires-2
-place-of-requires-2 c κs = let s = c .before .before .before .before .before .before .before in reread w32 (within columns) (fits s .y) (y-in (s .args .p) (s .pre .1 .0))
+place-of-requires-2 c κs = let s = c .before .before .before .before .before .before .before in reread w32 (within frames) (fits s .y) (framed (s .args .p .y) (y-in (s .args .p) (s .pre .1 .0)))
 
 -- the edges, and the two places
 module _ (c : tie.After-edges-of) where

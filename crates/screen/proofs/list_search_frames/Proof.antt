@@ -2,7 +2,7 @@ use mathlib.Core.Path.{sym, _∙_}
 use borrow.Author.Needs.{needs}
 use Rattle.rules.specs.ListCalls.{acceptRefusal}
 use Rattle.laws.proofs.Telling.{went-on, stopped}
-use Rattle.answer.proofs.Calls.{accepted}
+use Rattle.says.proofs.Asking.{accepted}
 use Rattle.screen.proofs.Calls.{not-accepted}
 use Rattle.screen.proofs.list_search_frames.Statement.{statement}
 use Rattle.screen.proofs.list_search_frames.Tie as tie

@@ -5,8 +5,8 @@ use mir.Syntax.{w32}
 use mir.Val.{SFits}
 use Rattle.ground.proofs.Signed.{reread}
 use Rattle.rules.specs.declared.Primitive.the-variants as primitive
-use Rattle.rules.specs.Ranges.{within, columns}
-use Rattle.laws.proofs.Ranges.{box-codes-in}
+use Rattle.rules.specs.Ranges.{within, frames}
+use Rattle.laws.proofs.Ranges.{framed, box-codes-in}
 use Rattle.span.proofs.Along.{axis-passed}
 use Rattle.span.proofs.Shapes.{out-of-reach, box-meets}
 use Rattle.span.proofs.box_codes.Statement.{statement}
@@ -33,8 +33,9 @@ returns c =
 axis-requires : tie.Need-axis-requires
 axis-requires c κs =
     let s = c .before .before .before .before in
-    let h = box-codes-in (s .args .b) (s .pre) in
-    (reread w32 (within columns) (fits s .lo) (h .0), reread w32 (within columns) (fits s .hi) (h .1))
+    let b = s .args .b in
+    let h = box-codes-in b (s .pre) in
+    (reread w32 (within frames) (fits s .lo) (framed (b .ylo) (h .0)), reread w32 (within frames) (fits s .hi) (framed (b .yhi) (h .1)))
 
 returns-2 : tie.Need-returns-2
 returns-2 c =

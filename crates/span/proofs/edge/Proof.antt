@@ -34,8 +34,8 @@ module _ (s : tie.Start) where
   apart : Num w32 (ofZ w32 (toZ w32 (ofZ w32 (s .args .a .x)) -ℤ toZ w32 (ofZ w32 (s .args .b .x)))) (s .args .a .x -ℤ s .args .b .x) 65536
   apart = sub-num a b tt
 
-sub-line : tie.Need-sub-line
-sub-line c = let s = c .before .before .before .before in sub-fits (a s) (b s) tt
+sub-half-values : tie.Need-sub-half-values
+sub-half-values c = let s = c .before .before .before .before in sub-fits (a s) (b s) tt
 
 side-requires : tie.Need-side-requires
 side-requires c κs = search needs
@@ -48,15 +48,15 @@ module _ (c : tie.After-side) where
   left : toZ w64 (ofZ w64 (c .side .result)) ≡ side (start .args .a) (start .args .b) (start .args .x) (pos 0)
   left = read w64 (c .side .ok) (c .side .ensures) ∙ λ i. side (start .args .a) (start .args .b) (toZ-ofZ w32 (start .args .x) (start .fits .x) i) (pos 0)
 
-line-requires : tie.Need-line-requires
-line-requires c κs =
+half-values-requires : tie.Need-half-values-requires
+half-values-requires c κs =
     let s = start c in
     (rw (apart s .reads) (apart s .bound), rw (left c) (omega (arith, side-most (s .args .a) (s .args .b) (s .args .x) (pos 0) (s .pre .0 .0) (s .pre .0 .1) (s .pre .1) refl)))
 
 returns : tie.Need-returns
 returns c =
     let s = start (c .before) in
-    as-along (λ v l. side-code (s .args .a) (s .args .b) (s .args .x) (value v)) (rw (left (c .before), apart s .reads) at (c .line .ensures))
+    as-along (λ v l. side-code (s .args .a) (s .args .b) (s .args .x) (value v)) (rw (left (c .before), apart s .reads) at (c .half-values .ensures))
 
 pub edge-spec : {M : Type 1} → statement M
-edge-spec = tie.close (tie.spec sub-line side-requires line-requires returns)
+edge-spec = tie.close (tie.spec sub-half-values side-requires half-values-requires returns)

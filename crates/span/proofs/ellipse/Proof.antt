@@ -7,10 +7,12 @@ use lib.IntN.{ℤ, natAbs}
 use mir.Syntax.{w32, w64}
 use mir.Val.{toZ, ofZ}
 use mir.ValLaws.{toZ-ofZ}
-use Rattle.ground.proofs.Signed.{read}
+use Rattle.ground.proofs.Signed.{reread, read}
 use Rattle.rules.specs.declared.Axis.the-variants.{Frame}
 use Rattle.rules.specs.Inside.{inEllipse}
 use Rattle.rules.specs.ListWords.{raised}
+use Rattle.rules.specs.Ranges.{within, frames}
+use Rattle.laws.proofs.Ranges.{framed}
 use Rattle.span.specs.Along.{value, near, ellipseLeft, Along, Root}
 use Rattle.span.proofs.Round.{ellipse-near, root-fits}
 use Rattle.span.proofs.ellipse.Statement.{statement}
@@ -23,7 +25,9 @@ radius-requires : tie.Need-radius-requires
 radius-requires c κs = search needs
 
 place-of-requires : tie.Need-place-of-requires
-place-of-requires c κs = search needs
+place-of-requires c κs =
+    let s = c .before .before in
+    reread w32 (within frames) (s .fits .cy) (framed (s .args .cy) (s .pre .0 .1))
 
 mul-root : tie.Need-mul-root
 mul-root c = let most = c .before .radius .ensures .1 in record { fits = omega (arith, mul-le-mul most most) }

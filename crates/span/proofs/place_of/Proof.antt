@@ -12,23 +12,23 @@ use Rattle.rules.specs.declared.Axis.the-variants.{Frame}
 use Rattle.rules.specs.ListWords.{raised}
 use Rattle.laws.proofs.Spans.{even-span}
 use Rattle.span.specs.Along.{places}
-use Rattle.span.proofs.Order.{place-below, code-raised}
+use Rattle.span.proofs.Order.{place-below, value-raised}
 use Rattle.span.proofs.place_of.Statement.{statement}
 use Rattle.span.proofs.place_of.Tie as tie
 
 -- the coordinate and the offset in 64 bits, and their sum
 module _ (c : tie.Start) where
-  coordinate : Num w64 (ofZ w64 (toZ w32 (ofZ w32 (c .args .coordinate)))) (c .args .coordinate) 32768
-  coordinate = wide (c .fits .coordinate) (even-span 32767 (c .args .coordinate) (c .pre)) tt
+  coordinate : Num w64 (ofZ w64 (toZ w32 (ofZ w32 (c .args .coordinate)))) (c .args .coordinate) 1048576
+  coordinate = wide (c .fits .coordinate) (even-span 1048575 (c .args .coordinate) (c .pre)) tt
 
   offset : Num w64 1048576 (pos 1048576) 1048576
   offset = unsigned (le-refl 1048576) tt
 
   is-raised : toZ w64 (ofZ w64 (toZ w64 (ofZ w64 (toZ w32 (ofZ w32 (c .args .coordinate)))) +ℤ toZ w64 1048576)) ≡ pos (raised Frame (c .args .coordinate))
-  is-raised = add-num coordinate offset tt .reads ∙ sym (code-raised (c .args .coordinate) (c .pre))
+  is-raised = add-num coordinate offset tt .reads ∙ sym (value-raised (c .args .coordinate) (c .pre))
 
 cast-result : tie.Need-cast-result
-cast-result c = widens (c .fits .coordinate) (even-span 32767 (c .args .coordinate) (c .pre)) tt
+cast-result c = widens (c .fits .coordinate) (even-span 1048575 (c .args .coordinate) (c .pre)) tt
 
 add-result : tie.Need-add-result
 add-result c = add-fits (coordinate c) (offset c) tt

@@ -8,8 +8,8 @@ use Rattle.ground.proofs.Signed.{reread}
 use Rattle.rules.specs.declared.Point.{Point}
 use Rattle.rules.specs.declared.Axis.the-variants.{Frame}
 use Rattle.rules.specs.ListWords.{raised}
-use Rattle.rules.specs.Ranges.{within, columns}
-use Rattle.laws.proofs.Ranges.{y-in}
+use Rattle.rules.specs.Ranges.{within, columns, frames}
+use Rattle.laws.proofs.Ranges.{framed, y-in}
 use Rattle.sweep.proofs.code_place.Statement.{statement}
 use Rattle.sweep.proofs.code_place.Tie as tie
 
@@ -23,7 +23,7 @@ code-in : (c : tie.After-point-at) → within columns (c .point-at .result .y) �
 code-in c = y-in (c .point-at .result) (c .point-at .ensures .1)
 
 place-of-requires : tie.Need-place-of-requires
-place-of-requires c κs = reread w32 (within columns) (fits (c .before)) (code-in (c .before))
+place-of-requires c κs = reread w32 (within frames) (fits (c .before)) (framed (c .before .point-at .result .y) (code-in (c .before)))
 
 returns : tie.Need-returns
 returns c =

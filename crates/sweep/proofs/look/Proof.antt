@@ -11,8 +11,8 @@ use Rattle.ground.proofs.Signed.{reread}
 use Rattle.rules.specs.declared.Axis.the-variants.{Frame}
 use Rattle.rules.specs.declared.Point.{Point}
 use Rattle.rules.specs.ListWords.{raised}
-use Rattle.rules.specs.Ranges.{within, columns}
-use Rattle.laws.proofs.Ranges.{x-in, y-in}
+use Rattle.rules.specs.Ranges.{within, frames}
+use Rattle.laws.proofs.Ranges.{framed, x-in, y-in}
 use Rattle.says.specs.Asking.{insideBy}
 use Rattle.span.specs.declared.Stretch.{Stretch}
 use Rattle.span.specs.Along.{places, codePoint}
@@ -31,10 +31,10 @@ fits : (s : tie.Start) → Fits s
 fits s = record { x = search needs; y = search needs }
 
 place-of-requires : tie.Need-place-of-requires
-place-of-requires c κs = let s = c .before .before .before .before .before in reread w32 (within columns) (fits s .x) (x-in (s .args .p) (s .pre .1 .0))
+place-of-requires c κs = let s = c .before .before .before .before .before in reread w32 (within frames) (fits s .x) (framed (s .args .p .x) (x-in (s .args .p) (s .pre .1 .0)))
 
 place-of-requires-2 : tie.Need-place-of-requires-2
-place-of-requires-2 c κs = let s = c .before .before .before .before .before .before .before in reread w32 (within columns) (fits s .y) (y-in (s .args .p) (s .pre .1 .0))
+place-of-requires-2 c κs = let s = c .before .before .before .before .before .before .before in reread w32 (within frames) (fits s .y) (framed (s .args .p .y) (y-in (s .args .p) (s .pre .1 .0)))
 
 fill-places-requires : tie.Need-fill-places-requires
 fill-places-requires c κs = (c .before .before .before .before .before .before .before .before .pre .1 .1 .0, c .place-of2 .ensures .1)

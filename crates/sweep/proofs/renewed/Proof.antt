@@ -8,8 +8,8 @@ use mir.ValLaws.{toZ-ofZ}
 use Rattle.ground.proofs.Signed.{reread}
 use Rattle.rules.specs.declared.Axis.the-variants.{Frame}
 use Rattle.rules.specs.ListWords.{raised}
-use Rattle.rules.specs.Ranges.{within, columns}
-use Rattle.laws.proofs.Ranges.{x-in}
+use Rattle.rules.specs.Ranges.{within, frames}
+use Rattle.laws.proofs.Ranges.{framed, x-in}
 use Rattle.margin.specs.Margins.{spot}
 use Rattle.says.specs.Asking.{saidBy}
 use Rattle.says.proofs.Asking.{by-set, ready-sound}
@@ -24,7 +24,7 @@ hold-at-requires : tie.Need-hold-at-requires
 hold-at-requires c κs = let s = c .before in (ready-sound (s .args .asked) (s .args .table .now) (s .args .list .now) (s .pre .0), s .pre .1)
 
 place-of-requires : tie.Need-place-of-requires
-place-of-requires c κs = let s = c .before .before .before .before .before in reread w32 (within columns) (fits s) (x-in (s .args .p) (s .pre .1))
+place-of-requires c κs = let s = c .before .before .before .before .before in reread w32 (within frames) (fits s) (framed (s .args .p .x) (x-in (s .args .p) (s .pre .1)))
 
 says-requires : tie.Need-says-requires
 says-requires c κs = search needs

@@ -12,6 +12,7 @@ use Rattle.rules.specs.declared.Point.{Point}
 use Rattle.rules.specs.Frame.{codeAt, pointOf, sampleInside}
 use Rattle.rules.specs.ListWords.{raised}
 use Rattle.rules.specs.Ranges.{within, columns}
+use Rattle.laws.proofs.Ranges.{framed}
 use Rattle.laws.proofs.Columns.{frame-right}
 use Rattle.frame.proofs.Tallies.{Running, begins, goes-on, ends}
 use Rattle.frame.specs.Tallies.{stepped}
@@ -20,7 +21,7 @@ use Rattle.says.specs.declared.Asked.{Asked}
 use Rattle.says.specs.Asking.{insideBy}
 use Rattle.span.specs.Along.{places, codePoint}
 use Rattle.span.proofs.Order.{place-below}
-use Rattle.column.specs.Lines.{Roomy}
+use Rattle.along.specs.Lines.{Roomy}
 use Rattle.sweep.specs.declared.Patch.{Patch}
 use Rattle.sweep.specs.Sweeps.{fillPlaces, Known}
 use Rattle.sweep.proofs.Filled.{sample-places}
@@ -37,7 +38,7 @@ record Before (samples : List ℤ) (k before : ℕ) : Type 0 where
   ranged : within columns (codeAt samples (k - 1)) ≡ true
 
 before-places : {samples : List ℤ} {k before : ℕ} → Before samples k before → before < places
-before-places {samples} {k} B = omega (arith, B .is, place-below (codeAt samples (k - 1)) (B .ranged))
+before-places {samples} {k} B = omega (arith, B .is, place-below (codeAt samples (k - 1)) (framed (codeAt samples (k - 1)) (B .ranged)))
 
 record Inv (asked : Asked) (table : List ℤ) (list : List ℕ) (samples : List ℤ) (place : Place) (marks los his : List ℕ) (before : ℕ) (q : Patch) (t : Tally) (k : ℕ) : Type 0 where
   in-frame : k ≤ length samples
