@@ -19,6 +19,7 @@ struct result {
     uint8_t text[LAMPHOLLY_TEXT_BYTES];
     uint32_t triples[LAMPHOLLY_TRIPLE_WORDS];
     int32_t picture[LAMPHOLLY_PICTURE_WORDS];
+    int32_t tree[LAMPHOLLY_REWRITE_WORDS], work[LAMPHOLLY_REWRITE_WORDS];
 };
 
 typedef struct lampholly_answer check_call(const int32_t *, size_t);
@@ -30,6 +31,7 @@ typedef struct lampholly_answer screen_call(const int32_t *, size_t, const uint6
                                             const int16_t *, size_t, size_t, int32_t, int32_t, uint32_t *, size_t);
 typedef struct lampholly_answer picture_call(const int32_t *, size_t, const uint64_t *, size_t,
                                              struct lampholly_rectangle, int32_t *, size_t);
+typedef struct lampholly_answer rewrite_call(const int32_t *, size_t, int32_t *, size_t, int32_t *, size_t);
 typedef struct lampholly_answer read_call(const uint8_t *, size_t, int32_t *, size_t);
 typedef struct lampholly_answer write_call(const int32_t *, size_t, uint8_t *, size_t);
 
@@ -44,6 +46,7 @@ struct rival {
     list_call *list;
     screen_call *screen;
     picture_call *picture;
+    rewrite_call *rewrite;
     read_call *read;
     write_call *write;
 };
@@ -100,6 +103,10 @@ static const struct rival drawers[MOST_RIVALS] = {
     {.name = "ours", .picture = lampholly_list_waterfall},
     {.name = "place by place", .picture = peer_waterfall},
 };
+static const struct rival rewriters[MOST_RIVALS] = {
+    {.name = "ours", .rewrite = lampholly_rewrite},
+    {.name = "array of nodes", .rewrite = peer_rewrite},
+};
 static const struct rival readers[MOST_RIVALS] = {
     {.name = "ours", .read = lampholly_read_text},
     {.name = "once through", .read = peer_read_text},
@@ -148,6 +155,7 @@ static const struct work works[] = {
     {"waterfall, 3 products: 1,000 frames", build_picture, FEW_FRAMES, drawers},
     {"waterfall, 3 products: 2,097,152 frames", build_picture, EVERY_FRAME, drawers},
     {"waterfall, 3 products: from 1,000 to 2,097,152", build_picture, FEW_TO_ALL_FRAMES, drawers},
+    {"rewrite, eight unions of two", build_pairs, 8, rewriters},
     {"text: reading 127 rows", build_text, MIXED, readers},
     {"text: writing 127 rows", build_text, MIXED, writers},
     {"check: 127 rows", build_text, MIXED, checkers},
@@ -203,6 +211,12 @@ static void draw_picture(const struct rival *rival, const struct load *load, str
                                LAMPHOLLY_PICTURE_WORDS));
 }
 
+static void rewrite_tree(const struct rival *rival, const struct load *load, struct result *result)
+{
+    const struct table *t = &load->zone[0];
+    add(result, rival->rewrite(t->word, t->words, result->tree, LAMPHOLLY_REWRITE_WORDS, result->work, LAMPHOLLY_REWRITE_WORDS));
+}
+
 static void run(const struct rival *rival, const struct load *load, struct result *result)
 {
     const struct table *t = &load->zone[0];
@@ -219,6 +233,8 @@ static void run(const struct rival *rival, const struct load *load, struct resul
         search_screen(rival, load, result);
     else if (rival->picture != NULL)
         draw_picture(rival, load, result);
+    else if (rival->rewrite != NULL)
+        rewrite_tree(rival, load, result);
     else
         search_frames(rival, load, result);
 }

@@ -27,10 +27,10 @@ struct load {
 /* Half of the work is built in the same manner as the whole. */
 typedef void build(struct load *load, int manner, int is_half);
 
-/* bench_zones.c: zones to make lists of. */
+/* bench_zones.c: zones to make lists of, and to rewrite. */
 enum { KEPT, WINDOW_MISSES, FIRST_MISSES, LAST_MISSES };
 enum { NEAR, HALF_FAR, FAR };
-build build_unions, build_cuts, build_sparse;
+build build_unions, build_cuts, build_sparse, build_pairs;
 
 /* Parts of a table, added at its end; each gives its row. */
 int32_t add_box(struct table *table, int32_t xlo, int32_t xhi, int32_t ylo, int32_t yhi);

@@ -1,4 +1,4 @@
-/* Zones whose lists are made in the benchmark. */
+/* Zones whose lists are made in the benchmark, or that are rewritten. */
 #include <string.h>
 
 #include "bench.h"
@@ -107,6 +107,17 @@ void build_unions(struct load *load, int manner, int is_half)
     if (manner == WINDOW_MISSES)
         load->window.xlo = 20000;
     load->work = is_half ? MOST_CHOICES / 2 : MOST_CHOICES;
+}
+
+/* Unions of two boxes, intersected. The manner is their number; for the half, it is one fewer. */
+void build_pairs(struct load *load, int manner, int is_half)
+{
+    struct table *table = &load->zone[0];
+    int32_t all = -1, unions = is_half ? manner - 1 : manner;
+    start_zone(load);
+    for (int32_t i = 0; i < unions; i++)
+        all = join(table, INTER, all, add_union(table, 2, 0));
+    load->work = 1 << unions;
 }
 
 /* A box less the intersection of its cuts: as many choices as cuts. */

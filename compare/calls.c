@@ -13,7 +13,7 @@ struct loan {
     void *at;
 };
 
-static struct loan table, list, codes, text, triples, picture;
+static struct loan table, list, codes, text, triples, picture, tree, work;
 
 /* What plain writes into; filled with chance first, so that each byte that must stay is seen to stay. */
 static int32_t wanted_table[TABLE_ROOM];
@@ -21,6 +21,7 @@ static uint64_t wanted_list[LIST_ROOM];
 static uint8_t wanted_text[TEXT_ROOM];
 static uint32_t wanted_triples[TRIPLES_ROOM];
 static int32_t wanted_picture[PICTURE_ROOM];
+static int32_t wanted_tree[AREA_ROOM], wanted_work[AREA_ROOM];
 
 static uint64_t seed_now, case_now;
 static const struct question *asked;
@@ -51,6 +52,8 @@ void open_calls(uint64_t seed)
     open_lent(&text.lent, sizeof wanted_text);
     open_lent(&triples.lent, sizeof wanted_triples);
     open_lent(&picture.lent, sizeof wanted_picture);
+    open_lent(&tree.lent, sizeof wanted_tree);
+    open_lent(&work.lent, sizeof wanted_work);
 }
 
 void begin_case(uint64_t number)
@@ -97,6 +100,8 @@ static void lend_all(const struct question *q)
     lend_codes(q->frame, q->screen);
     lend_to_write(&triples, wanted_triples, q->call == LIST_SEARCH_FRAMES ? q->room * sizeof wanted_triples[0] : 0);
     lend_to_write(&picture, wanted_picture, q->call == LIST_WATERFALL ? q->room * sizeof wanted_picture[0] : 0);
+    lend_to_write(&tree, wanted_tree, q->call == REWRITE ? q->room * sizeof wanted_tree[0] : 0);
+    lend_to_write(&work, wanted_work, q->call == REWRITE ? q->work_room * sizeof wanted_work[0] : 0);
 }
 
 static struct plain_window as_plain(struct lampholly_window w)
@@ -131,6 +136,8 @@ static struct plain_answer ask_plain(const struct question *q)
         return plain_list_search_frames(t->word, t->words, l->word, l->words, s->code, s->samples, s->frames,
                                         s->first, s->number, wanted_triples, q->room);
     case LIST_WATERFALL: return ask_plain_waterfall(q);
+    case REWRITE:
+        return plain_rewrite(t->word, t->words, wanted_tree, q->room, wanted_work, q->work_room, tally_rewrite);
     case READ_TEXT: return plain_read_text(q->text->byte, q->text->bytes, wanted_table, q->room);
     default: return plain_write_text(t->word, t->words, wanted_text, q->room);
     }
@@ -156,6 +163,7 @@ static struct lampholly_answer ask_library(const struct question *q)
                                             s->first, s->number, triples.at, q->room);
     case LIST_WATERFALL:
         return lampholly_list_waterfall(table.at, t->words, list.at, l->words, q->rectangle, picture.at, q->room);
+    case REWRITE: return lampholly_rewrite(table.at, t->words, tree.at, q->room, work.at, q->work_room);
     case READ_TEXT: return lampholly_read_text(text.at, q->text->bytes, table.at, q->room);
     default: return lampholly_write_text(table.at, t->words, text.at, q->room);
     }
@@ -164,19 +172,21 @@ static struct lampholly_answer ask_library(const struct question *q)
 /* What is wrong with the outcome, NULL for nothing. */
 static const char *fault(struct plain_answer want, struct lampholly_answer got)
 {
+    static const struct {
+        const struct loan *loan;
+        const char *fault;
+    } loans[] = {
+        {&table, "the table's buffer differs"},     {&list, "the list's buffer differs"},
+        {&codes, "the codes' buffer differs"},      {&triples, "the triples' buffer differs"},
+        {&picture, "the picture's buffer differs"}, {&tree, "the finished tree's buffer differs"},
+        {&work, "the work area differs"},           {&text, "the text's buffer differs"},
+    };
     if (want.refusal != got.refusal || want.value != got.value || want.count != got.count)
         return "the answers differ";
-    if (!holds(&table.lent, table.content))
-        return "the table's buffer differs";
-    if (!holds(&list.lent, list.content))
-        return "the list's buffer differs";
-    if (!holds(&codes.lent, codes.content))
-        return "the codes' buffer differs";
-    if (!holds(&triples.lent, triples.content))
-        return "the triples' buffer differs";
-    if (!holds(&picture.lent, picture.content))
-        return "the picture's buffer differs";
-    return holds(&text.lent, text.content) ? NULL : "the text's buffer differs";
+    for (size_t i = 0; i < sizeof loans / sizeof loans[0]; i++)
+        if (!holds(&loans[i].loan->lent, loans[i].loan->content))
+            return loans[i].fault;
+    return NULL;
 }
 
 /* A frame of the screen by the library's single call. Where its number leaves 32 bits, any that is out of range will do. */
@@ -228,5 +238,7 @@ void ask(struct question question)
         ask_each_frame(&question);
     if (question.call == LIST_WATERFALL && want.refusal == 0)
         tally_picture(&question, wanted_picture);
+    if (question.call == REWRITE && want.refusal == 0)
+        tally_finished(wanted_tree, want.value);
     tally(&question, want);
 }

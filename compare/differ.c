@@ -1,11 +1,11 @@
-/* The differential test: plain against the library over all ten calls. Use: differ SEED COUNT [FIRST CASE] */
+/* The differential test: plain against the library over all eleven calls. Use: differ SEED COUNT [FIRST CASE] */
 #include <stdio.h>
 #include <stdlib.h>
 
 #include "differ.h"
 
 /* From so many cases on, every answer and refusal of every call, all that a triple and a place can tell and all that can be met
-   of triangles and of edges must have been seen. */
+   of rewriting, of triangles and of edges must have been seen. */
 #define MANY_CASES 5000
 
 /* Samples times words of the list: what plain can bear of one search. */
@@ -180,6 +180,38 @@ static void ask_dense(void)
     ask_pictures(8 * any_tests(&zone, list.words));
 }
 
+/* Without room, 8 says that nothing else is refused. */
+static int can_be_rewritten(const struct table *table)
+{
+    return plain_rewrite(table->word, table->words, NULL, 0, NULL, 0, NULL).refusal == 8;
+}
+
+/* Just what is asked for, mostly. Large areas take time: where they are not looked at, small ones will do, mostly. */
+static size_t any_area(int is_looked_at)
+{
+    size_t needed = is_looked_at || one_in(8) ? REWRITE_WORDS : 40;
+    return one_in(4) ? any_room(needed, AREA_ROOM) : needed;
+}
+
+static void ask_rewrite(void)
+{
+    struct question rewrite = {.call = REWRITE, .table = &lent_zone};
+    int is_looked_at = can_be_rewritten(&lent_zone);
+    rewrite.room = any_area(is_looked_at);
+    rewrite.work_room = any_area(is_looked_at);
+    ask(rewrite);
+}
+
+/* Many a zone of a case cannot be rewritten: one that is small enough. */
+static void ask_small(void)
+{
+    any_small_zone(&zone);
+    lent_zone = zone;
+    if (one_in(16))
+        damage_table(&lent_zone);
+    ask_rewrite();
+}
+
 /* A frame that the zone may hold from its first sample to its last. */
 static void ask_long(void)
 {
@@ -213,7 +245,10 @@ static void run_case(uint64_t number)
     ask_write_text();
     ask_read_text();
     ask_pictures(any_tests(&zone, list.words));
+    if (one_in(3))
+        ask_rewrite();
     ask_dense();
+    ask_small();
 }
 
 int main(int argc, char **argv)

@@ -19,7 +19,7 @@ int holds(const struct lent *lent, const void *content);
 /* calls.c: one call, asked of both. */
 enum call {
     CHECK, TREE_POINT, TREE_SEARCH, MAKE_LIST, LIST_POINT, LIST_SEARCH, READ_TEXT, WRITE_TEXT, LIST_SEARCH_FRAMES,
-    LIST_WATERFALL, CALLS
+    LIST_WATERFALL, REWRITE, CALLS
 };
 
 /* What a call takes; the parts that it does not take are left 0. */
@@ -33,7 +33,7 @@ struct question {
     struct lampholly_window window;
     struct lampholly_rectangle rectangle;
     struct point point;
-    size_t room;
+    size_t room, work_room;
 };
 
 void open_calls(uint64_t seed);
@@ -48,6 +48,8 @@ extern const char *const call_name[CALLS];
 void tally(const struct question *question, struct plain_answer answer);
 void tally_triple(const uint32_t *triple);
 void tally_picture(const struct question *question, const int32_t *picture);
+plain_watcher tally_rewrite;
+void tally_finished(const int32_t *tree, uint64_t words);
 void print_tally(uint64_t seed, uint64_t cases);
 int is_all_seen(void);
 

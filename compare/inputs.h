@@ -15,6 +15,7 @@
 #define SCREEN_ROOM (2 * FRAME_ROOM + MOST_FRAMES) /* two frames that are too long, and what is left over of a division */
 #define TRIPLES_ROOM (TRIPLE_WORDS * (MOST_FRAMES + 20))
 #define PICTURE_ROOM (MOST_PICTURE_WORDS + 60)
+#define AREA_ROOM (REWRITE_WORDS + 60) /* the finished tree's, and the work area */
 #define TEXT_ROOM 20000
 
 struct table {
@@ -72,6 +73,7 @@ void fill(void *bytes, size_t count);
 void any_zone(struct table *table);
 void any_long_zone(struct table *table);
 void any_dense_zone(struct table *table);
+void any_small_zone(struct table *table);
 void any_marks(void);
 void near_marks(void);
 void any_long_box(int32_t *row);

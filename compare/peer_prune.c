@@ -19,6 +19,11 @@ static uint64_t count(const struct peer_zone *zone, int32_t number, int is_in)
     return (row->kind == UNION) == is_in ? left + right : left * right;
 }
 
+uint64_t peer_expansion_count(const struct peer_zone *zone)
+{
+    return count(zone, zone->rows - 1, 1);
+}
+
 static struct lampholly_answer check_window(struct lampholly_window window)
 {
     struct peer_box box = box_of_window(window);
@@ -39,7 +44,7 @@ struct lampholly_answer peer_prepare(const int32_t *table, size_t words, struct 
         check = check_window(window);
     if (check.refusal)
         return check;
-    uint64_t choices = count(zone, zone->rows - 1, 1);
+    uint64_t choices = peer_expansion_count(zone);
     return choices > MOST_CHOICES ? peer_refused(7, choices) : check;
 }
 

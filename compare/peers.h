@@ -76,7 +76,8 @@ struct lampholly_answer peer_write_out(const int32_t *table, size_t words, struc
 struct lampholly_answer peer_expand(const int32_t *table, size_t words, struct lampholly_window window,
                                     uint64_t *list, size_t room);
 
-/* peer_prune.c: what both ways share. */
+/* peer_prune.c: what both ways share; and the number of choices, which peer_rewrite.c asks for, too. */
+uint64_t peer_expansion_count(const struct peer_zone *zone);
 struct peer_box box_of_window(struct lampholly_window window);
 struct lampholly_answer peer_prepare(const int32_t *table, size_t words, struct lampholly_window window, struct peer_zone *zone);
 struct lampholly_answer peer_finish(const struct peer_zone *zone, struct lampholly_window window,
@@ -124,6 +125,10 @@ struct lampholly_answer peer_screen_columns(const int32_t *table, size_t words, 
 /* peer_waterfall.c: every place evaluated with all frames of the window, by the list. */
 struct lampholly_answer peer_waterfall(const int32_t *table, size_t words, const uint64_t *list, size_t list_words,
                                        struct lampholly_rectangle rectangle, int32_t *picture, size_t room);
+
+/* peer_rewrite.c: the paper's procedure, the same rewrites in the same order. */
+struct lampholly_answer peer_rewrite(const int32_t *table, size_t words, int32_t *tree, size_t room,
+                                     int32_t *work, size_t work_room);
 
 /* peer_text.c */
 struct lampholly_answer peer_read_text(const uint8_t *text, size_t bytes, int32_t *table, size_t room);

@@ -48,6 +48,23 @@ struct plain_answer plain_list_search_frames(const int32_t *table, size_t words,
 struct plain_answer plain_list_waterfall(const int32_t *table, size_t words, const uint64_t *list, size_t list_words,
                                          struct plain_rectangle rectangle, int32_t *picture, size_t room);
 
+/* A node of the tree that is rewritten: a primitive, of kind 0 and with its number, or an operation of two subtrees. */
+struct plain_node {
+    int32_t kind, number;
+    struct plain_node *left, *right;
+};
+
+/* What a watcher is told: the tree as it was read; each node that an equivalence fits; and that node when it is rewritten. */
+enum plain_moment { PLAIN_READ, PLAIN_FITS, PLAIN_REWRITTEN };
+
+/* Equivalences are counted from 0, in the order in which they are tried; where the tree is read, it is 0 and the node the root. */
+typedef void plain_watcher(enum plain_moment moment, int equivalence,
+                           const struct plain_node *node, const struct plain_node *root);
+
+/* Three words a row of the finished tree: left subtree, right subtree, node. Every word of the work area is 0 then. */
+struct plain_answer plain_rewrite(const int32_t *table, size_t words, int32_t *tree, size_t room,
+                                  int32_t *work, size_t work_room, plain_watcher *watcher);
+
 struct plain_answer plain_read_text(const uint8_t *text, size_t bytes, int32_t *table, size_t room);
 
 struct plain_answer plain_write_text(const int32_t *table, size_t words, uint8_t *text, size_t room);

@@ -43,6 +43,11 @@ static uint64_t count_out(const struct zone *zone, size_t number)
     }
 }
 
+uint64_t plain_expansion_count(const struct zone *zone)
+{
+    return count_in(zone, zone->rows - 1);
+}
+
 /* The choices themselves, all written out. */
 
 static struct choices room_for(size_t count)
@@ -95,14 +100,6 @@ static uint64_t bit(size_t primitive)
     return (uint64_t)1 << primitive;
 }
 
-static size_t primitive_number(const struct zone *zone, const int32_t *row)
-{
-    size_t i = 0;
-    while (zone->primitive[i] != row)
-        i++;
-    return i;
-}
-
 static struct choices choices_out(const struct zone *zone, size_t number);
 
 static struct choices choices_in(const struct zone *zone, size_t number)
@@ -112,7 +109,7 @@ static struct choices choices_in(const struct zone *zone, size_t number)
     case UNION: return left_then_right(choices_in(zone, row[LEFT]), choices_in(zone, row[RIGHT]));
     case INTER: return crossed(choices_in(zone, row[LEFT]), choices_in(zone, row[RIGHT]));
     case DIFF: return crossed(choices_in(zone, row[LEFT]), choices_out(zone, row[RIGHT]));
-    default: return one_choice(bit(primitive_number(zone, row)), 0);
+    default: return one_choice(bit(plain_primitive_number(zone, row)), 0);
     }
 }
 
@@ -123,7 +120,7 @@ static struct choices choices_out(const struct zone *zone, size_t number)
     case UNION: return crossed(choices_out(zone, row[LEFT]), choices_out(zone, row[RIGHT]));
     case INTER: return left_then_right(choices_out(zone, row[LEFT]), choices_out(zone, row[RIGHT]));
     case DIFF: return left_then_right(choices_out(zone, row[LEFT]), choices_in(zone, row[RIGHT]));
-    default: return one_choice(0, bit(primitive_number(zone, row)));
+    default: return one_choice(0, bit(plain_primitive_number(zone, row)));
     }
 }
 
@@ -278,12 +275,11 @@ struct plain_answer plain_make_list(const int32_t *table, size_t words, struct p
     if (plain_is_refused(check))
         return check;
     struct zone zone = plain_zone(table, words);
-    size_t root = zone.rows - 1;
-    uint64_t expansion_count = count_in(&zone, root);
+    uint64_t expansion_count = plain_expansion_count(&zone);
     if (expansion_count > MOST_CHOICES)
         return plain_refused(7, expansion_count);
 
-    struct choices products = choices_in(&zone, root);
+    struct choices products = choices_in(&zone, zone.rows - 1);
     prune(&zone, window, &products);
     drop_repeats(&products);
 

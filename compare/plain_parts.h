@@ -28,11 +28,15 @@ struct plain_answer plain_found(uint64_t position, uint64_t inside_samples);
 struct plain_answer plain_refused(uint64_t number, uint64_t value);
 int plain_is_refused(struct plain_answer answer);
 struct zone plain_zone(const int32_t *table, size_t words);
+size_t plain_primitive_number(const struct zone *zone, const int32_t *row);
 
 /* plain_tree.c */
 int plain_in_primitive(const int32_t *row, struct point point);
 struct plain_answer plain_check_frame(size_t samples, int32_t first, int64_t frame);
 struct point plain_sample(const int16_t *codes, size_t position, int32_t first, int64_t frame);
 struct held_codes plain_held_codes(const int16_t *codes, size_t position);
+
+/* plain_make.c */
+uint64_t plain_expansion_count(const struct zone *zone);
 
 #endif

@@ -158,3 +158,11 @@ struct zone plain_zone(const int32_t *table, size_t words)
     }
     return zone;
 }
+
+size_t plain_primitive_number(const struct zone *zone, const int32_t *row)
+{
+    size_t i = 0;
+    while (zone->primitive[i] != row)
+        i++;
+    return i;
+}

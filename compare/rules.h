@@ -1,5 +1,5 @@
-/* The numbers of the rules (docs/RULES.md), each said once: what each axis holds, the kinds, what stands where in a table
-   and in a list, the side of a triangle's edge, and how much of anything there may be. */
+/* The numbers of the rules (docs/RULES.md), each said once: what each axis holds, the kinds, what stands where in a table,
+   in a list and in a finished tree, the side of a triangle's edge, the equivalences, and how much of anything there may be. */
 #ifndef RULES_H
 #define RULES_H
 
@@ -176,5 +176,23 @@ enum { TOLD_CLEAR = 0, TOLD_HIT = 1, TOLD_REFUSED = 100 };
 #define MOST_SIDE 128
 #define MOST_PICTURE_WORDS (MOST_SIDE * MOST_SIDE)
 #define NO_FRAME INT32_MIN
+
+/* Rewriting: at most so many primitives and choices, so that no tree on the way has more leaves. */
+#define MOST_REWRITE_PRIMITIVES 16
+#define MOST_REWRITE_CHOICES 256
+#define MOST_LEAVES (MOST_REWRITE_PRIMITIVES * MOST_REWRITE_CHOICES)
+#define MOST_NODES (2 * MOST_LEAVES - 1)
+
+/* A row of a finished tree has the words KIND, LEFT and RIGHT; of a leaf, LEFT is the primitive's number. */
+enum { LEAF = 0, NODE_WORDS = 3 };
+#define REWRITE_WORDS (NODE_WORDS * MOST_NODES)
+
+/* The equivalences of document 000, in the order in which they are tried. */
+enum {
+    EQUIVALENCE_1, EQUIVALENCE_2, EQUIVALENCE_3, EQUIVALENCE_4, EQUIVALENCE_5, EQUIVALENCE_6, EQUIVALENCE_6_5,
+    EQUIVALENCE_7, EQUIVALENCE_8, EQUIVALENCES
+};
+
+static const char *const equivalence_name[EQUIVALENCES] = {"1", "2", "3", "4", "5", "6", "6.5", "7", "8"};
 
 #endif

@@ -80,6 +80,8 @@ void show_question(const struct question *q)
         printf("rectangle %" PRId32 "..%" PRId32 " %" PRId32 "..%" PRId32 "\n", q->rectangle.xlo, q->rectangle.xhi,
                q->rectangle.ylo, q->rectangle.yhi);
     if (q->call == MAKE_LIST || q->call == READ_TEXT || q->call == WRITE_TEXT || q->call == LIST_SEARCH_FRAMES
-        || q->call == LIST_WATERFALL)
+        || q->call == LIST_WATERFALL || q->call == REWRITE)
         printf("room %zu\n", q->room);
+    if (q->call == REWRITE)
+        printf("room for work %zu\n", q->work_room);
 }

@@ -21,10 +21,15 @@
 #define CODE (LEAST_CODE + GREATEST_RADIUS)
 #define SIDE 4
 
+/* So many rows have the chains that are rewritten. */
+#define SMALL_ROWS (2 * MOST_REWRITE_PRIMITIVES - 1)
+
 static unsigned char stack[STACK_BYTES] __attribute__((aligned(16)));
 
 /* What the calls are lent. In each of two frames an edge goes up over all codes, and one comes down. */
 static int32_t table[MOST_TABLE_WORDS], read_table[MOST_TABLE_WORDS];
+static int32_t left_chain[ROW_WORDS * SMALL_ROWS], right_chain[ROW_WORDS * SMALL_ROWS];
+static int32_t tree[REWRITE_WORDS], work[REWRITE_WORDS];
 static uint64_t list[HEADER_WORDS + PRODUCT_WORDS * MOST_PRIMITIVES];
 static const int16_t codes[SAMPLES] = {LEAST_CODE, GREATEST_CODE, LEAST_CODE, LEAST_CODE, GREATEST_CODE, LEAST_CODE};
 static uint32_t triples[FRAMES * TRIPLE_WORDS];
@@ -77,6 +82,14 @@ static void list_waterfall(void)
     answer = lampholly_list_waterfall(table, MOST_TABLE_WORDS, list, list_length, rectangle, picture, SIDE * SIDE);
 }
 
+/* Both chains, one after the other: what the deeper one takes is counted. */
+static void rewrite(void)
+{
+    answer = lampholly_rewrite(left_chain, table_words(SMALL_ROWS), tree, REWRITE_WORDS, work, REWRITE_WORDS);
+    if (!answer.refusal)
+        answer = lampholly_rewrite(right_chain, table_words(SMALL_ROWS), tree, REWRITE_WORDS, work, REWRITE_WORDS);
+}
+
 static void write_text(void)
 {
     answer = lampholly_write_text(table, MOST_TABLE_WORDS, text, sizeof text);
@@ -101,6 +114,7 @@ static const struct work {
     {"list_search", list_search, SEARCH_BYTES - 1},
     {"list_search_frames", list_search_frames, SEARCH_BYTES - 1},
     {"list_waterfall", list_waterfall, STACK_BYTES},
+    {"rewrite", rewrite, STACK_BYTES},
     {"read_text", read_text, STACK_BYTES},
     {"write_text", write_text, PANEL_BYTES / 2},
 };
@@ -115,18 +129,18 @@ static const int32_t primitive[CHAINS][ROW_WORDS] = {
     [TRIANGLES] = {TRIANGLE, LEAST_COLUMN, LEAST_CODE, LEAST_COLUMN, GREATEST_CODE, GREATEST_COLUMN, LEAST_CODE, ALL_FRAMES},
 };
 
-/* 64 times that primitive, and 63 times that operation in a chain. */
-static void put_chain(int chain, int32_t operation)
+/* So many rows: that primitive over and over, and that operation in a chain that leans to the left or to the right. */
+static void put_chain(int32_t *rows, int32_t count, int chain, int32_t operation, int leans_right)
 {
-    for (int32_t row = 0; row < MOST_ROWS; row++) {
-        int32_t *word = table + table_words((size_t)row);
+    for (int32_t row = 0; row < count; row++) {
+        int32_t *word = rows + table_words((size_t)row);
         memset(word, 0, ROW_WORDS * sizeof word[0]);
         if (row < 2 || row % 2 == 1) {
             memcpy(word, primitive[chain], sizeof primitive[chain]);
         } else {
             word[KIND] = operation;
-            word[LEFT] = row == 2 ? 0 : row - 2;
-            word[RIGHT] = row - 1;
+            word[leans_right ? RIGHT : LEFT] = row == 2 ? 0 : row - 2;
+            word[leans_right ? LEFT : RIGHT] = row - 1;
         }
     }
 }
@@ -163,7 +177,9 @@ static size_t taken(void (*call)(void))
 /* The calls that ask a list or read a text need one. */
 static void prepare(int chain, int32_t operation)
 {
-    put_chain(chain, operation);
+    put_chain(table, MOST_ROWS, chain, operation, 0);
+    put_chain(left_chain, SMALL_ROWS, chain, operation, 0);
+    put_chain(right_chain, SMALL_ROWS, chain, operation, 1);
     make_list();
     list_length = answer.value;
     write_text();

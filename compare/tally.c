@@ -5,18 +5,18 @@
 
 #include "differ.h"
 
-#define REFUSALS 13
+#define REFUSALS 15
 
 const char *const call_name[CALLS] = {
     "check", "tree_point", "tree_search", "make_list", "list_point", "list_search", "read_text", "write_text",
-    "list_search_frames", "list_waterfall",
+    "list_search_frames", "list_waterfall", "rewrite",
 };
 
 /* The refusals that the rules give each call, ended by 0. */
 static const int refusals_of[CALLS][REFUSALS] = {
     {1, 2, 3, 4, 5},        {1, 2, 3, 4, 5, 10},        {1, 2, 3, 4, 5, 12}, {1, 2, 3, 4, 5, 6, 7, 8},
     {1, 2, 3, 4, 5, 9, 11, 10}, {1, 2, 3, 4, 5, 9, 11, 12, 10}, {13, 3, 4, 5, 8},    {1, 2, 3, 4, 5, 8},
-    {1, 2, 3, 4, 5, 9, 11, 12, 8}, {1, 2, 3, 4, 5, 9, 11, 6, 8},
+    {1, 2, 3, 4, 5, 9, 11, 12, 8}, {1, 2, 3, 4, 5, 9, 11, 6, 8}, {1, 2, 3, 4, 5, 14, 15, 8},
 };
 
 /* What the triple of a frame can tell; a refusal by 12 is told apart by its value. */
@@ -64,6 +64,16 @@ static const char *const drawn_name[DRAWN] = {
 };
 
 static uint64_t drawn[DRAWN];
+
+/* What can be met of rewriting: each equivalence, where it ends, and which area had no room. */
+enum { BY_EQUIVALENCE, AT_6_5 = BY_EQUIVALENCE + EQUIVALENCES, AT_MOST_CHOICES, TREE_8, WORK_8, REWRITING };
+
+static const char *const rewriting_name[REWRITING] = {
+    "by 1", "by 2", "by 3", "by 4", "by 5", "by 6", "by 6.5", "by 7", "by 8", "that ends where 6.5 would fit",
+    "that ends in 256 products", "refused 8 for its tree alone", "refused 8 for its work area alone",
+};
+
+static uint64_t rewriting[REWRITING];
 
 static int asks_point(enum call call)
 {
@@ -226,6 +236,31 @@ void tally_picture(const struct question *q, const int32_t *picture)
     }
 }
 
+void tally_rewrite(enum plain_moment moment, int equivalence, const struct plain_node *node, const struct plain_node *root)
+{
+    (void)node;
+    (void)root;
+    rewriting[BY_EQUIVALENCE + equivalence] += moment == PLAIN_REWRITTEN;
+}
+
+void tally_finished(const int32_t *tree, uint64_t words)
+{
+    int is_at_6_5 = 0, products = 1;
+    for (const int32_t *row = tree; row < tree + words; row += NODE_WORDS) {
+        is_at_6_5 |= row[KIND] == INTER && tree[NODE_WORDS * row[LEFT] + KIND] == DIFF;
+        products += row[KIND] == UNION;
+    }
+    rewriting[AT_6_5] += is_at_6_5;
+    rewriting[AT_MOST_CHOICES] += products == MOST_REWRITE_CHOICES;
+}
+
+static void tally_area(const struct question *q)
+{
+    int has_tree = q->room >= REWRITE_WORDS, has_work = q->work_room >= REWRITE_WORDS;
+    rewriting[TREE_8] += !has_tree && has_work;
+    rewriting[WORK_8] += has_tree && !has_work;
+}
+
 void tally(const struct question *question, struct plain_answer answer)
 {
     enum call call = question->call;
@@ -239,6 +274,8 @@ void tally(const struct question *question, struct plain_answer answer)
         tally_edges(question, answer);
     if (call == LIST_WATERFALL && answer.refusal == 6)
         drawn[BAD_BOUND + answer.value]++;
+    if (call == REWRITE && answer.refusal == 8)
+        tally_area(question);
 }
 
 void tally_triple(const uint32_t *triple)
@@ -280,7 +317,8 @@ void print_tally(uint64_t seed, uint64_t cases)
     printf(", clear %" PRIu64, answered[TREE_SEARCH][0] + answered[LIST_SEARCH][0]);
     printf(", hit %" PRIu64, answered[TREE_SEARCH][1] + answered[LIST_SEARCH][1]);
     printf(", written %" PRIu64 "; refused", answered[MAKE_LIST][0] + answered[READ_TEXT][0] + answered[WRITE_TEXT][0]
-                                              + answered[LIST_SEARCH_FRAMES][0] + answered[LIST_WATERFALL][0]);
+                                              + answered[LIST_SEARCH_FRAMES][0] + answered[LIST_WATERFALL][0]
+                                              + answered[REWRITE][0]);
     for (int number = 1; number <= REFUSALS; number++) {
         uint64_t seen = 0;
         for (int call = 0; call < CALLS; call++)
@@ -289,6 +327,7 @@ void print_tally(uint64_t seed, uint64_t cases)
     }
     print_counts("; triples", told_name, told, TOLD);
     print_counts("; places", drawn_name, drawn, DRAWN);
+    print_counts("; rewriting", rewriting_name, rewriting, REWRITING);
     print_counts("; triangles", met_name, met, MET);
     for (int search = 0; search < SEARCHES; search++) {
         printf("; ");
@@ -309,11 +348,12 @@ static int is_each_seen(const char *what, const char *const *name, const uint64_
 }
 
 /* Was every answer and refusal that the rules give a call seen of it, all that a triple and a place can tell, and all that can be
-   met of a triangle and of edges? Names what was not. */
+   met of rewriting, of a triangle and of edges? Names what was not. */
 int is_all_seen(void)
 {
     int all = is_each_seen("triple that tells", told_name, told, TOLD);
     all = is_each_seen("place", drawn_name, drawn, DRAWN) && all;
+    all = is_each_seen("rewriting", rewriting_name, rewriting, REWRITING) && all;
     all = is_each_seen("triangle", met_name, met, MET) && all;
     for (int search = 0; search < SEARCHES; search++)
         all = is_each_seen(search_name[search], edge_name, edges[search], EDGES) && all;

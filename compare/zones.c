@@ -118,14 +118,31 @@ static void join_from(struct table *table, size_t place, int32_t operation)
     }
 }
 
+/* So many primitives, joined into one. */
+static void grow_joined(struct table *table, size_t size, int32_t operation)
+{
+    size_t place = open_count;
+    for (size_t i = 0; i < size; i++)
+        grow_primitive(table);
+    join_from(table, place, operation);
+}
+
+/* Cuts an intersection of so many primitives out of what was opened last: it has so many times the choices then. */
+static void grow_cuts(struct table *table, size_t size)
+{
+    grow_joined(table, size, INTER);
+    join_from(table, open_count - 2, DIFF);
+}
+
 /* A group of this many primitives with as many choices in it: a union, or a primitive less an intersection of cuts. */
 static void grow_group(struct table *table, size_t size, int is_cut)
 {
-    size_t place = open_count;
-    for (size_t i = 0; i < size + (is_cut ? 1 : 0); i++)
-        grow_primitive(table);
-    join_from(table, place + (is_cut ? 1 : 0), is_cut ? INTER : UNION);
-    join_from(table, place, DIFF);
+    if (!is_cut) {
+        grow_joined(table, size, UNION);
+        return;
+    }
+    grow_primitive(table);
+    grow_cuts(table, size);
 }
 
 /* Groups of some sizes from least to greatest, all intersected: the expansion count is the product of the sizes. */
@@ -144,6 +161,24 @@ static void grow_groups(struct table *table, int64_t least, int64_t greatest, ui
     }
     if (open_count == 0)
         grow_primitive(table);
+    join_from(table, 0, INTER);
+}
+
+/* So many primitives in unions of a few and cuts of a few, which lean to the left, to the right or both ways: their choices are
+   about as many as so many primitives can have. */
+static void grow_full(struct table *table, size_t primitives)
+{
+    int64_t greatest = between(2, 4);
+    while (primitives > 0) {
+        size_t size = (size_t)clamped(between(2, greatest), 1, (int64_t)primitives);
+        if (open_count > 0 && one_in(4))
+            grow_cuts(table, size);
+        else
+            grow_joined(table, size, UNION);
+        if (one_in(2))
+            join_from(table, 0, INTER);
+        primitives -= size;
+    }
     join_from(table, 0, INTER);
 }
 
@@ -236,4 +271,16 @@ void any_dense_zone(struct table *table)
         grow_primitive(table);
         join_from(table, 0, (int32_t)ONE_OF(UNION, INTER, DIFF, DIFF));
     }
+}
+
+/* A zone that can be rewritten, mostly; seldom one at the limit of its choices or of its primitives, or past it. */
+void any_small_zone(struct table *table)
+{
+    clear(table);
+    if (one_in(30))
+        grow_full(table, one_in(4) ? MOST_REWRITE_PRIMITIVES - 1 : MOST_REWRITE_PRIMITIVES);
+    else if (one_in(8))
+        grow_tree(table, (size_t)between(9, MOST_REWRITE_PRIMITIVES + 1), MOST_REWRITE_CHOICES);
+    else
+        grow_tree(table, (size_t)between(1, 8), MOST_REWRITE_CHOICES);
 }

@@ -23,25 +23,26 @@
 
    What is lent
    - `words` counts words, not rows and not bytes. The same holds for `list_words`, `samples` and `bytes`, and `room` counts the
-     words or bytes that fit into the buffer to be written.
+     words or bytes that fit into the buffer to be written; `work_room` counts those of a work area.
    - A buffer of length 0 may be NULL.
    - The buffers of one call must not overlap.
    - Nothing outside the lent buffers is read or written, nothing is allocated and nothing is kept between calls.
-   - A refused call leaves every buffer as it was. A call that writes leaves what lies beyond its result as it was.
+   - A refused call leaves every buffer as it was. A call that writes leaves what lies beyond its result as it was; a work area
+     holds nothing but 0 then.
    - Every input has an answer; no call has a precondition besides those above.
 
    Threads: calls keep no state, so they may run at the same time unless one writes a buffer that is lent to another.
    Stack: bytes as measured (no bounds) on tables of 127 rows: check 328; write_text 392; list_point 536; tree_point 568;
-   list_waterfall 2,152; tree_search 2,520; list_search 2,568; list_search_frames 2,696; read_text 7,680; make_list 11,264.
-   docs/PERFORMANCE.md says how.
+   list_waterfall 2,152; tree_search 2,520; list_search 2,568; list_search_frames 2,696; read_text 7,680; make_list 11,264; and
+   on 16 primitives rewrite 4,048. docs/PERFORMANCE.md says how.
    Cost: linear in the rows for check, tree_point and write_text; in the bytes for read_text; in rows + list words for
    list_point. A search is linear in the samples. A sample takes rows + list words, at most twice, and as much again for each
    end of a primitive's codes that its column passes, of which there are two a primitive; where the trace stays clear of the edges
    of the zone it takes next to nothing, however many rows there are. list_search_frames checks table and list once, then
    takes for each frame what list_search takes for it. list_waterfall checks them once, too; then a place takes rows, and
    primitives + list words for each step down its frames, of which there are 2 * primitives + 1 at the most, however many frames
-   the window has. make_list takes rows * rows, and then what the choices take that it has to go through: docs/PERFORMANCE.md has
-   times, and no bound is known.
+   the window has. make_list takes rows * rows, and then what the choices take that it has to go through; rewrite takes up to the
+   words of the tree for each step, and clears the work area at the end: docs/PERFORMANCE.md has times, and no bound is known.
 
    The table's refusals, in their order; each call that takes a table gives them first
       1  words not a multiple of 12, no row, or over 127 rows      value: words
@@ -66,7 +67,7 @@ extern "C" {
 #endif
 
 /* The header's own: hundreds rise where a program that was right may need a change, ones where something was added. */
-#define LAMPHOLLY_VERSION 301
+#define LAMPHOLLY_VERSION 302
 
 /* The kinds of rows. */
 #define LAMPHOLLY_BOX 0
@@ -91,14 +92,17 @@ extern "C" {
 #define LAMPHOLLY_REFUSED_PRIMITIVES 11
 #define LAMPHOLLY_REFUSED_FRAME 12
 #define LAMPHOLLY_REFUSED_TEXT 13
+#define LAMPHOLLY_REFUSED_REWRITE_PRIMITIVES 14
+#define LAMPHOLLY_REFUSED_REWRITE_EXPANSION 15
 
 /* What always suffices: a table of 127 rows, a list of 65,536 products, the longest text that can be read, the triples of 500
-   frames, a picture of 128 columns and 128 codes. */
+   frames, a picture of 128 columns and 128 codes, a finished tree of 4,096 leaves. */
 #define LAMPHOLLY_TABLE_WORDS 1524
 #define LAMPHOLLY_LIST_WORDS 131080
 #define LAMPHOLLY_TEXT_BYTES 16384
 #define LAMPHOLLY_TRIPLE_WORDS 1500
 #define LAMPHOLLY_PICTURE_WORDS 16384
+#define LAMPHOLLY_REWRITE_WORDS 24573
 
 /* What stands in a picture where no frame is inside. */
 #define LAMPHOLLY_NO_FRAME (-2147483647 - 1)
@@ -236,6 +240,22 @@ struct lampholly_answer lampholly_list_waterfall(const int32_t *table, size_t wo
                                                  const uint64_t *list, size_t list_words,
                                                  struct lampholly_rectangle rectangle,
                                                  int32_t *picture, size_t room);
+
+/* Rewrites the tree of a zone of at most 16 primitives and 256 choices to a union of products, step by step, by the eight
+   equivalences of the paper that docs/RULES.md names and its number 6.5, always by the lowest that fits, and without pruning. Its
+   products are the choices that lampholly_make_list begins with. The finished tree goes into tree[0 .. room - 1], three words a
+   row:
+      0, number, 0         a primitive
+      kind, left, right    LAMPHOLLY_UNION, _INTER or _DIFF, and its two rows
+   Rows are those of the finished tree, counted from 0, in the order left subtree, right subtree, node: the last is the root.
+   What lies beyond them stays as it was. work[0 .. work_room - 1] is used on the way, and every word of it is 0 then.
+   Answers: written (0, words of the finished tree, 0).
+   Refusals: the table's; then
+     14  over 16 primitives                                            value: their number
+     15  the expansion count (lampholly_make_list says it) over 256    value: that count
+      8  room or work_room under 24,573, whatever the tree needs       value: 24,573 */
+struct lampholly_answer lampholly_rewrite(const int32_t *table, size_t words,
+                                          int32_t *tree, size_t room, int32_t *work, size_t work_room);
 
 #ifdef __cplusplus
 }

@@ -18,15 +18,17 @@ use Rattle.rules.specs.declared.Primitive.{Primitive}
 use Rattle.rules.specs.declared.Row.{Row}
 use Rattle.rules.specs.declared.Row.the-variants.{Solid, Union, Inter, Diff}
 use Rattle.rules.specs.Table.{rowCount, rowAt, solidOf, primitivesBefore}
-use Rattle.rules.specs.Tree.{rowTree, treeAt}
+use Rattle.rules.specs.Choices.{inOf, expansion}
+use Rattle.rules.specs.Tree.{rowTree, treeAt, treeOf}
 use Rattle.laws.specs.Sound.{Sound}
 use Rattle.laws.specs.Plans.{Plan, either, both, plan, count}
 use Rattle.laws.proofs.Apart.{next-before}
 use Rattle.laws.proofs.Expansion.{expansion-fits}
 use Rattle.laws.proofs.Trees.{read-right, read-tree}
+use Rattle.laws.proofs.Ways.{choices-ways, ways-count}
 use Rattle.choice.specs.declared.Step.{Step}
 use Rattle.choice.specs.declared.Step.the-variants.{With, Without, Either, Both}
-use Rattle.choice.specs.Steps.{sideOf, planAt, IsStep, NumberedTo, Numbered, slotOf, Remembered}
+use Rattle.choice.specs.Steps.{sideOf, planAt, rootPlan, IsStep, NumberedTo, Numbered, slotOf, Remembered}
 
 -- ---- a row that was read as r
 
@@ -148,6 +150,12 @@ count-fits-word {t} S {row} l within e = record { fits = subst (λ (n : ℕ). n 
 -- a step that was read, once it is known which it is
 pub as-step : (t : List ℤ) (row : ℕ) (p : Plan) {x r : Step} → IsStep t row p x → x ≡ r → IsStep t row p r
 as-step t row p h g = subst (IsStep t row p) g h
+
+-- ---- the count of the root's ways is the expansion count
+
+pub expansion-ways : (t : List ℤ) → expansion (treeOf t) ≡ count (rootPlan t)
+unfolding planAt
+expansion-ways t = ap length (choices-ways inOf (treeOf t)) ∙ ways-count (plan inOf (treeOf t))
 
 -- ---- bits, row by row
 

@@ -9,7 +9,7 @@ ghost use Rattle.rules.specs.Choices.{joined};
 ghost use Rattle.rules.specs.Table.{rowCount, primitives, primitivesBefore};
 ghost use Rattle.laws.specs.Sound.{Sound};
 ghost use Rattle.laws.specs.Plans.{count, kth};
-ghost use Rattle.choice.specs.Steps.{planAt, slotOf, IsStep, NumberedTo, Numbered, Remembered};
+ghost use Rattle.choice.specs.Steps.{planAt, rootPlan, slotOf, IsStep, NumberedTo, Numbered, Remembered};
 
 // What a row is on a side: a primitive's bit, in or out, or two parts, each a row and its side, of which either is chosen, or both.
 pub enum Step {
@@ -140,6 +140,16 @@ pub fn count_ways(
             remember(counts, at, x * y)
         }
     }
+}
+
+// How many ways there are, the counts of the rows being remembered only here.
+pub fn ways_of(table: &[i32], bits: &[u64; 127]) -> u64
+    requires { ⌜ Sound (now table) × Numbered (now table) (now bits) ⌝ }
+    ensures { λ r. ⌜ r ≡ count (rootPlan (now (table .entry))) ⌝ }
+{
+    let mut counts: [u64; 254] = [0; 254];
+    let root = table::root(table);
+    count_ways(table, bits, &mut counts, root, true)
 }
 
 fn together(a: Product, b: Product) -> Product

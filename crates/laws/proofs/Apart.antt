@@ -119,7 +119,7 @@ module _ (t : List ℤ) (S : Sound t) where
   next-times : (i row : ℕ) → times i (suc row) ≡ times i row + countIf (eqb i) (childrenOf (rowAt t row))
   next-times i row = ap (countIf (eqb i)) (next-row (λ r. childrenOf (rowAt t r)) row) ∙ count-append (eqb i) (named row) (childrenOf (rowAt t row))
 
-  before-rises : (a b : ℕ) → a ≤ b → before a ≤ before b
+  pub before-rises : (a b : ℕ) → a ≤ b → before a ≤ before b
   before-rises = rising before (λ k. omega (arith, next-before k))
 
   times-once : (i : ℕ) → i < rowCount t - 1 → times i (rowCount t) ≡ 1

@@ -15,6 +15,7 @@ pub mod Columns
 pub mod Screens
 pub mod Apart
 pub mod Numbers
+pub mod Placing
 pub mod Expansion
 pub mod Spaces
 pub mod Triangles

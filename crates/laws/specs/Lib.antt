@@ -2,6 +2,7 @@ pub mod Sound
 pub mod Checking
 pub mod Drawing
 pub mod Plans
+pub mod Placed
 pub mod Survivors
 pub mod Reach
 pub mod SoundList

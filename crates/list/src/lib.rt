@@ -68,16 +68,6 @@ fn make_of(
     Written::Wrote(layout::place_of(n))
 }
 
-// How many ways there are, the counts of the rows being remembered only here.
-fn ways_of(table: &[i32], bits: &[u64; 127]) -> u64
-    requires { ⌜ Sound (now table) × Numbered (now table) (now bits) ⌝ }
-    ensures { λ r. ⌜ r ≡ count (rootPlan (now (table .entry))) ⌝ }
-{
-    let mut counts: [u64; 254] = [0; 254];
-    let root = table::root(table);
-    choice::count_ways(table, bits, &mut counts, root, true)
-}
-
 // The table is sound and the window right: the ways, then the list.
 fn make_for(list: &mut [u64], table: &[i32], w: Window) -> Written
     requires { ⌜ (tableRefusal (now table) ≡ none) × (windowRefusal w ≡ none) ⌝ }
@@ -85,7 +75,7 @@ fn make_for(list: &mut [u64], table: &[i32], w: Window) -> Written
 {
     let mut bits: [u64; 127] = [0; 127];
     let solids = choice::number_rows(&mut bits, table);
-    let ways = ways_of(table, &bits);
+    let ways = choice::ways_of(table, &bits);
     if rules::MOST_CHOICES < ways {
         return Written::Refused(Refusal {
             number: 7,

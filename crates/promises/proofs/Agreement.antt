@@ -18,6 +18,7 @@ use Rattle.rules.specs.Tree.{Tree, solid, union, inter, diff, nowhere}
 use Rattle.rules.specs.Inside.{inside, insideSolid}
 use Rattle.rules.specs.Choices.{Side, inOf, outOf, choices, joined, _crossed-with_}
 use Rattle.rules.specs.ListInside.{insideProduct}
+use Rattle.laws.specs.Placed.{Placed}
 use Rattle.laws.proofs.Spaces.{and-swap}
 
 -- ---- tests
@@ -101,13 +102,6 @@ module _ (test : Product → Bool) (split : (a b : Product) → test (joined a b
       ∙ sym (and-or-distrib-left (anyOf test lefts) (test r) (anyOf test rights))
 
 -- ---- the tree
-
--- the numbers of a tree's primitives are their places in the list
-unfoldable pub Placed : List Primitive → Tree → Type 0
-Placed solids (solid i s) = (i < length solids) × (getD solids i nowhere ≡ s)
-Placed solids (union left right) = Placed solids left × Placed solids right
-Placed solids (inter left right) = Placed solids left × Placed solids right
-Placed solids (diff left right) = Placed solids left × Placed solids right
 
 -- what a side asks of the answer
 abbrev on : Side → Bool → Bool

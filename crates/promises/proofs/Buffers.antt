@@ -1,13 +1,11 @@
 -- What `make a list` leaves in the buffer holds exactly the products of the choices; where they do not fit, it is as it was. Assumes nothing.
-use Prim.Native.Nat.{ℕ, _+_, _-_, _*_, _≤_, _<_}
-use native.Mathlib.Omega.{arith}
+use Prim.Native.Nat.{ℕ, _+_, _*_, _≤_, _<_}
 use mathlib.Core.List.{List}
 use mathlib.Core.Option.{Option, none, some}
-use mathlib.Core.Path.{_≡_, refl, sym, ap, ap₂, subst, _∙_}
+use mathlib.Core.Path.{_≡_, refl, sym, ap, subst, _∙_}
 use borrow.Author.Tests.{le-leb, lt-leb}
 use lib.IntN.{ℤ}
 use lib.ListN.{length, drop}
-use lib.Seq.{getD-append-add, getD-drop}
 use Rattle.ground.specs.Lists.{firstOf}
 use Rattle.ground.proofs.Counting.{first-kept}
 use Rattle.rules.specs.declared.Product.{Product}
@@ -23,6 +21,7 @@ use Rattle.rules.specs.Table.{primitives}
 use Rattle.rules.specs.Told.{wrote, refused, tell, toldWritten}
 use Rattle.rules.specs.Tree.{treeOf}
 use Rattle.rules.specs.Verdict.{tableRefusal}
+use Rattle.rules.proofs.Settled.{over-rest}
 use Rattle.promises.specs.EachOnce.{EachOnce}
 use Rattle.promises.proofs.EachOnce.{each-once}
 use Rattle.laws.proofs.Soundness.{table-sound}
@@ -44,13 +43,7 @@ module _ (t : List ℤ) (w : Window) (before after : List ℕ) (r : Written) (ma
         (each-once t w (window-filled w (window .0)) (plain-in-table t (table-sound t (table .0))) (drop (length (zoneList t w)) before))
 
     pub list-rest : (i : ℕ) → length (zoneList t w) ≤ i → word after i ≡ word before i
-    list-rest i l =
-        let n = length (zoneList t w) in
-        let s : i ≡ n + (i - n) = omega arith in
-        ap₂ word (is-over made fine) s
-        ∙ getD-append-add (zoneList t w) (drop n before) (i - n) 0
-        ∙ getD-drop n before (i - n) 0
-        ∙ ap (word before) (sym s)
+    list-rest i l = ap (λ (list : List ℕ). word list i) (is-over made fine) ∙ over-rest (zoneList t w) before 0 i l
 
   -- they do not fit: the refusal names the words that they need, and the buffer is as it was
   pub list-room : tableRefusal t ≡ none → windowRefusal w ≡ none → expansion (treeOf t) ≤ mostChoices

@@ -14,5 +14,6 @@ pub mod Screens
 pub mod Pictures
 pub mod Copies
 pub mod RoundTrips
+pub mod Rewritings
 pub mod Possible
 pub mod Promises

@@ -100,10 +100,10 @@ search-answers x found count = answers toldSearched x (searchTale found count) (
 
 -- ---- calls that write
 
-pub writes : {A : Type 0} {Meets : List A → Written → Type 0} {before : List A} (x : Option Refusal) (n : ℕ)
-    → ((after : List A) (r : Written) → Meets after r → toldWritten r ≡ tell x (wrote n))
-    → ((a b : List A) (r s : Written) → Meets a r → Meets b s → (r ≡ s) × (a ≡ b))
-    → ((after : List A) (q : Refusal) → Meets after (written.Refused q) → after ≡ before) → Writes Meets before x
+pub writes : {Lent : Type 0} {Meets : Lent → Written → Type 0} {before : Lent} (x : Option Refusal) (n : ℕ)
+    → ((after : Lent) (r : Written) → Meets after r → toldWritten r ≡ tell x (wrote n))
+    → ((a b : Lent) (r s : Written) → Meets a r → Meets b s → (r ≡ s) × (a ≡ b))
+    → ((after : Lent) (q : Refusal) → Meets after (written.Refused q) → after ≡ before) → Writes Meets before x
 writes {Meets = Meets} x n answer settled keeps = record {
   settled = λ {a} {b} {r} {s} m k. settled a b r s m k;
   refuses = λ {after} {r} m e. refuses toldWritten x (wrote n) other r (answer after r m) e;

@@ -33,6 +33,7 @@ use Rattle.rules.specs.ListFaults.{headerRefusals, productRefusals, listRefusal
 use Rattle.rules.specs.ListInside.{insideList}
 use Rattle.rules.specs.ListWords.{productCount}
 use Rattle.rules.specs.Refusals.{refuse, refuseIf, refuseUnless}
+use Rattle.rules.specs.RewriteCall.{rewriteRefusal, TreeRewritten}
 use Rattle.rules.specs.Table.{primitives, rowCount, kindAt, wordAt}
 use Rattle.rules.specs.TextCalls.{formRefusal, readRefusal, TextRead, writeRefusal, TextWritten}
 use Rattle.rules.specs.TextForm.{TextForm, too-long, faulty, spelt}
@@ -188,6 +189,10 @@ list-search-frames-possible {t} {list} {codes} {frames} {place} {before} m =
 pub list-waterfall-possible : {t : List ℤ} {list : List ℕ} {q : Rectangle} {before after : List ℤ} {r : Written}
     → PictureDrawn t list q before after r → Possible (toldWritten r)
 list-waterfall-possible {t} {list} {q} {before} m = told-possible (waterfallRefusal t list q (length before)) _ (search calls depth 9) refl (m .answer)
+
+pub rewrite-tree-possible : {t before after work cleared : List ℤ} {r : Written} → TreeRewritten t before after work cleared r → Possible (toldWritten r)
+rewrite-tree-possible {t} {before} {work = work} m =
+    told-possible (rewriteRefusal t (length before) (length work)) _ (search calls depth 9) refl (m .answer)
 
 pub read-text-possible : {text : List ℕ} {before after : List ℤ} {r : Written} → TextRead text before after r → Possible (toldWritten r)
 read-text-possible {before = before} m = told-possible (readRefusal (m .form) (length before)) _ (search calls depth 9) refl (m .answer)

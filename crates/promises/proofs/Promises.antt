@@ -17,6 +17,7 @@ use Rattle.rules.specs.Inside.{inside}
 use Rattle.rules.specs.ListCalls.{zoneList, makeRefusal, ListMade, listPointRefusal, listSearchRefusal, screenRefusal, waterfallRefusal}
 use Rattle.rules.specs.ListInside.{insideList}
 use Rattle.rules.specs.Products.{products}
+use Rattle.rules.specs.RewriteCall.{finishedRows, rewriteRefusal}
 use Rattle.rules.specs.Screen.{tripleWords}
 use Rattle.rules.specs.Table.{primitives}
 use Rattle.rules.specs.TextCalls.{tableRead, readRefusal, tableText, writeRefusal}
@@ -27,7 +28,9 @@ use Rattle.rules.specs.Waterfall.{pictureWords}
 use Rattle.rules.proofs.Settled.{tree-located-settled, tree-searched-settled, list-located-settled, list-searched-settled, list-made-settled}
 use Rattle.rules.proofs.Settled.{text-read-settled, text-written-settled, list-made-keeps, text-read-keeps, text-written-keeps}
 use Rattle.rules.proofs.Settled.{screen-searched-settled, screen-searched-keeps, picture-drawn-settled, picture-drawn-keeps}
+use Rattle.rules.proofs.Settled.{tree-rewritten-settled, tree-rewritten-keeps}
 use Rattle.rules.proofs.Told.{written-once, triple-once}
+use Rattle.paper.proofs.Equivalences.{rule-points}
 use Rattle.promises.specs.Promises.{Promise1, InTree, InList, Made, Faithful, Promise2, Listable, Promise3}
 use Rattle.promises.proofs.ListAsTree.{sampleHeld, window-in-range, made-passes, list-locates, list-answers-tree, list-refuses-outside, searches-agree}
 use Rattle.promises.proofs.Copies.{list-needs, listable-fine, not-refused, made-listable, made-fits, made-length, made-words, made-here}
@@ -36,6 +39,8 @@ use Rattle.promises.proofs.Buffers.{list-right, list-rest, list-room}
 use Rattle.promises.proofs.Searches.{search-finds}
 use Rattle.promises.proofs.Screens.{screen-writes, screen-tells}
 use Rattle.promises.proofs.Pictures.{picture-writes, picture-tells, made-picture}
+use Rattle.promises.proofs.Rewritings.{rewrite-keeps, rewrite-leaves, rewrite-writes, rewrite-fits, rewrite-tells}
+use Rattle.promises.proofs.Rewritings.{rewrite-rest-stays, rewrite-clears, list-from-rewriting}
 use Rattle.promises.proofs.Sets.{tests-are-sets, tree-answers-sets}
 use Rattle.promises.proofs.Strangers.{stranger-refused}
 use Rattle.promises.proofs.RoundTrips.{writes-text, table-text-table, reads-text, text-table-text}
@@ -65,6 +70,10 @@ promise-1 = record {
   list-waterfall = λ t list q before.
       writes (waterfallRefusal t list q (length before)) (pictureWords q)
       (λ after r m. m .answer) (λ a b r s. picture-drawn-settled) (λ after q. picture-drawn-keeps);
+  rewrite-tree = λ t before work.
+      writes (rewriteRefusal t (length before) (length work)) (length (finishedRows t)) (λ areas r m. m .answer)
+      (λ a b r s m k. let same = tree-rewritten-settled m k in (same .0, λ i. (same .1 i, same .2 i)))
+      (λ areas q m. let kept = tree-rewritten-keeps m in λ i. (kept .0 i, kept .1 i));
   read-text = λ text form before.
       writes (readRefusal form (length before)) (length (tableRead form))
       (λ after r. read-answer form) (λ a b r s. text-read-settled) (λ after q. text-read-keeps);
@@ -113,6 +122,15 @@ promise-2 = record {
   triples-apart = triple-once;
   picture-writes = picture-writes;
   picture-tells = picture-tells;
+  rewrite-writes = rewrite-writes;
+  rewrite-fits = rewrite-fits;
+  rewrite-tells = rewrite-tells;
+  rewrite-rest-stays = rewrite-rest-stays;
+  rewrite-clears = rewrite-clears;
+  each-rule-keeps = rule-points;
+  each-rewrite-keeps = rewrite-keeps;
+  each-rewrite-loses-no-leaf = rewrite-leaves;
+  list-from-rewriting = list-from-rewriting;
   writes-text = writes-text;
   table-text-table = table-text-table;
   reads-text = reads-text;

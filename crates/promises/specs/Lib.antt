@@ -1,4 +1,5 @@
 pub mod Sets
 pub mod EachOnce
 pub mod Possible
+pub mod Rewriting
 pub mod Promises

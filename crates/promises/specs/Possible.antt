@@ -6,7 +6,7 @@ use Rattle.rules.specs.Told.{Tale, sound, inside, outside, clear, hit, wrote, r
 
 -- the table of refusals ends with this number
 abbrev pub lastRefusal : ℕ
-lastRefusal = 13
+lastRefusal = 15
 
 -- a number of the table of refusals
 abbrev pub InTable : ℕ → Type 0

@@ -2,13 +2,13 @@
 -- proofs/Promises.antt proves them; docs/PROMISES.md walks through them and says how to read this. Answers speak by what they tell (section 12 of
 -- docs/RULES.md): `fine tale` has the number 0, `refused q` the number and the value of the refusal q.
 use Prim.Native.Nat.{ℕ, _+_, _*_, _≤_, _<_}
-use mathlib.Core.Bool.{true, false}
+use mathlib.Core.Bool.{Bool, true, false}
 use mathlib.Core.List.{List, map}
 use mathlib.Core.Logic.{_⊎_}
 use mathlib.Core.Option.{Option, none, some}
 use mathlib.Core.Path.{_≡_}
 use lib.IntN.{ℤ, pos, _+ℤ_, _-ℤ_}
-use lib.ListN.{length, getD, take, drop}
+use lib.ListN.{length, getD, take, drop, replicate}
 use lib.Signed.{leZ}
 use Rattle.ground.specs.Lists.{All, Some, keepIf}
 use Rattle.rules.specs.declared.Located.{Located}
@@ -22,14 +22,17 @@ use Rattle.rules.specs.declared.Window.{Window}
 use Rattle.rules.specs.declared.Written.{Written}
 use Rattle.rules.specs.Boxes.{holds, everywhere, windowBox}
 use Rattle.rules.specs.Choices.{choices, inOf, expansion}
+use Rattle.rules.specs.Form.{Form, holdsAt, leaves, Rule}
 use Rattle.rules.specs.Frame.{codeAt, heldCodes, pointOf, frameRefusal}
 use Rattle.rules.specs.ListCalls.{mostChoices, windowRefusal, makeRefusal, ListMade, listPointRefusal, ListLocated, listSearchRefusal, ListSearched}
 use Rattle.rules.specs.ListCalls.{screenRefusal, ScreenSearched, waterfallRefusal, PictureDrawn}
 use Rattle.rules.specs.ListInside.{insideList}
 use Rattle.rules.specs.ListWords.{headerWords, productWords, listOf, word, listWindow}
+use Rattle.rules.specs.NormalForm.{productsOf}
 use Rattle.rules.specs.Products.{stays, trimmed, firsts}
 use Rattle.rules.specs.Ranges.{Span, within, sizeOf}
 use Rattle.rules.specs.Refusals.{refuse}
+use Rattle.rules.specs.RewriteCall.{rewriteWords, finishedRows, rewriteRefusal, TreeRewritten}
 use Rattle.rules.specs.Screen.{frameAt, later, tripleWords, tripleOf}
 use Rattle.rules.specs.Table.{primitives}
 use Rattle.rules.specs.TextCalls.{tableRead, formRefusal, readRefusal, TextRead, tableText, writeRefusal, TextWritten}
@@ -37,9 +40,11 @@ use Rattle.rules.specs.TextForm.{Word32, TextForm}
 use Rattle.rules.specs.Told.{Told, inside, outside, clear, hit, wrote, fine, refused, toldChecked, toldLocated, toldSearched, toldWritten}
 use Rattle.rules.specs.Tree.{treeOf}
 use Rattle.rules.specs.TreeCalls.{pointRefusal, TableChecked, treePointRefusal, TreeLocated, treeSearchRefusal, TreeSearched}
+use Rattle.rules.specs.TreeRows.{formIn}
 use Rattle.rules.specs.Verdict.{tableRefusal}
 use Rattle.rules.specs.Waterfall.{noFrame, columnsOf, codesOf, pictureWords}
 use Rattle.promises.specs.EachOnce.{EachOnce}
+use Rattle.promises.specs.Rewriting.{Rewrite, Rewritten, pruned}
 use Rattle.promises.specs.Sets.{InSet}
 
 -- ==== Promise 1
@@ -59,18 +64,18 @@ pub record OnlyAnswers {A : Type 0} (told : A → Told) (Meets : A → Type 0) (
   -- and nothing else is refused
   pub no-other : {r : A} {q : Refusal} → Meets r → told r ≡ refused q → rule ≡ some q
 
--- A call that writes into a lent buffer: `Meets after r` says that it left `after` there, and answered r.
-pub record Writes {A : Type 0} (Meets : List A → Written → Type 0) (before : List A) (rule : Option Refusal) : Type 0 where
-  -- two outcomes that meet the record are the same, in the answer and in the buffer
-  pub settled : {a b : List A} {r s : Written} → Meets a r → Meets b s → (r ≡ s) × (a ≡ b)
+-- A call that writes into what it is lent, which is one buffer, or two as a pair: `Meets after r` says that it left `after` there, and answered r.
+pub record Writes {Lent : Type 0} (Meets : Lent → Written → Type 0) (before : Lent) (rule : Option Refusal) : Type 0 where
+  -- two outcomes that meet the record are the same, in the answer and in every buffer
+  pub settled : {a b : Lent} {r s : Written} → Meets a r → Meets b s → (r ≡ s) × (a ≡ b)
   -- what the rules refuse gets the refusal of the rules
-  pub refuses : {after : List A} {r : Written} {q : Refusal} → Meets after r → rule ≡ some q → toldWritten r ≡ refused q
+  pub refuses : {after : Lent} {r : Written} {q : Refusal} → Meets after r → rule ≡ some q → toldWritten r ≡ refused q
   -- and nothing else is refused
-  pub no-other : {after : List A} {r : Written} {q : Refusal} → Meets after r → toldWritten r ≡ refused q → rule ≡ some q
-  -- a refusal leaves the buffer as it was
-  pub unchanged : {after : List A} {r : Written} {q : Refusal} → Meets after r → toldWritten r ≡ refused q → after ≡ before
+  pub no-other : {after : Lent} {r : Written} {q : Refusal} → Meets after r → toldWritten r ≡ refused q → rule ≡ some q
+  -- a refusal leaves every buffer as it was
+  pub unchanged : {after : Lent} {r : Written} {q : Refusal} → Meets after r → toldWritten r ≡ refused q → after ≡ before
 
--- the ten public calls, at every input
+-- the eleven public calls, at every input
 pub record Promise1 : Type 0 where
   pub check-table : (t : List ℤ) → OnlyAnswers toldChecked (TableChecked t) (tableRefusal t)
   pub tree-point : (t : List ℤ) (p : Point) → OnlyAnswers toldLocated (TreeLocated t p) (treePointRefusal t p)
@@ -84,6 +89,10 @@ pub record Promise1 : Type 0 where
       → Writes (ScreenSearched t list codes frames place before) before (screenRefusal t list codes frames (length before))
   pub list-waterfall : (t : List ℤ) (list : List ℕ) (q : Rectangle) (before : List ℤ)
       → Writes (PictureDrawn t list q before) before (waterfallRefusal t list q (length before))
+  -- the tree's area, and the work area
+  pub rewrite-tree : (t before work : List ℤ)
+      → Writes (λ (areas : List ℤ × List ℤ). TreeRewritten t before (areas .0) work (areas .1)) (before, work)
+      (rewriteRefusal t (length before) (length work))
   -- `form` is how the text stands: too long, with a first faulty line, or right
   pub read-text : (text : List ℕ) (form : TextForm text) (before : List ℤ) → Writes (TextRead text before) before (readRefusal form (length before))
   pub write-text : (t : List ℤ) (before : List ℕ) → Writes (TextWritten t before) before (writeRefusal t (length before))
@@ -220,6 +229,31 @@ pub record Promise2 : Type 0 where
   -- .. and each is the newest frame of the list's window at which the list has its place.
   pub picture-tells : {t : List ℤ} {list : List ℕ} {q : Rectangle} {before after : List ℤ} {r : Written} {n : ℕ}
       → PictureDrawn t list q before after r → toldWritten r ≡ fine (wrote n) → AllNewest q (listWindow list .z) (InList t list) after
+  -- A tree is rewritten into normal form: where no rule of the call is broken the rows of the finished tree are written, ..
+  pub rewrite-writes : {t before after work cleared : List ℤ} {r : Written} → TreeRewritten t before after work cleared r
+      → rewriteRefusal t (length before) (length work) ≡ none → toldWritten r ≡ fine (wrote (length (finishedRows t)))
+  -- .. they fit, for 24,573 words are always enough, ..
+  pub rewrite-fits : {t before after work cleared : List ℤ} {r : Written} {n : ℕ} → TreeRewritten t before after work cleared r
+      → toldWritten r ≡ fine (wrote n) → (n ≤ rewriteWords) × (rewriteWords ≤ length before)
+  -- .. the n words that were written, read back, are what the zone's tree is rewritten to, ..
+  pub rewrite-tells : {t before after work cleared : List ℤ} {r : Written} {n : ℕ} → TreeRewritten t before after work cleared r
+      → toldWritten r ≡ fine (wrote n) → Rewritten t (formIn after n)
+  -- .. words after them stay, ..
+  pub rewrite-rest-stays : {t before after work cleared : List ℤ} {r : Written} {n : ℕ} → TreeRewritten t before after work cleared r
+      → toldWritten r ≡ fine (wrote n) → (i : ℕ) → n ≤ i → getD after i (pos 0) ≡ getD before i (pos 0)
+  -- .. and the work area is 0 to its end.
+  pub rewrite-clears : {t before after work cleared : List ℤ} {r : Written} {n : ℕ} → TreeRewritten t before after work cleared r
+      → toldWritten r ≡ fine (wrote n) → cleared ≡ replicate (length work) (pos 0)
+  -- Each of the nine rules, and so each rewrite, keeps every point, ..
+  pub each-rule-keeps : {k : ℕ} {T U : Form} → Rule k T U → (holding : ℕ → Bool) → holdsAt holding T ≡ holdsAt holding U
+  pub each-rewrite-keeps : {T U : Form} → Rewrite T U → (holding : ℕ → Bool) → holdsAt holding T ≡ holdsAt holding U
+  -- .. and each rewrite loses no leaf.
+  pub each-rewrite-loses-no-leaf : {T U : Form} → Rewrite T U → leaves T ≤ leaves U
+  -- A list made from the same table is the products of the rewritten tree, pruned afterwards.
+  pub list-from-rewriting : {t before after work cleared : List ℤ} {r : Written} {n : ℕ} → TreeRewritten t before after work cleared r
+      → toldWritten r ≡ fine (wrote n)
+      → {w : Window} {room list : List ℕ} {s : Written} {m : ℕ} → ListMade t w room list s → toldWritten s ≡ fine (wrote m)
+      → take m list ≡ listOf w (length (primitives t)) (pruned w (primitives t) (productsOf (formIn after n)))
   -- Tree to text to tree is the same tree: the text of a sound table is written, where there is room for it, ..
   pub writes-text : {t : List ℤ} {before text : List ℕ} {r : Written} → TextWritten t before text r → tableRefusal t ≡ none
       → length (tableText t) ≤ length before → toldWritten r ≡ fine (wrote (length (tableText t)))

@@ -1,5 +1,6 @@
 // The calls, asked and told.
 use crate::pictures;
+use crate::rewriting;
 use comparing::Axes;
 use lines::Word;
 use lines::answers;
@@ -26,11 +27,13 @@ const LIST_SEARCH_FRAMES: usize = 16;
 
 const LIST_WATERFALL: usize = 17;
 
-const MAKE_LIST: usize = 18;
+const REWRITE_TREE: usize = 18;
 
-const WRITE_TEXT: usize = 19;
+const MAKE_LIST: usize = 19;
 
-const COMPARE: usize = 20;
+const WRITE_TEXT: usize = 20;
+
+const COMPARE: usize = 21;
 
 fn point_of(n: [i32; 6]) -> Point {
     Point {
@@ -211,6 +214,9 @@ fn numbers_of(call: usize) -> usize {
     if (call == TREE_POINT) | (call == LIST_POINT) {
         return 3;
     }
+    if call == REWRITE_TREE {
+        return 4;
+    }
     if call == LIST_SEARCH_FRAMES {
         return 5;
     }
@@ -231,6 +237,9 @@ fn tell(text: &[u8], call: usize, held: &[usize; 11], n: [i32; 6], table: &[i32]
     if call == TREE_POINT {
         answers::located(zone::tree_point(table, point_of(n)));
         return true;
+    }
+    if call == REWRITE_TREE {
+        return rewriting::rewrite(table, n);
     }
     if call == MAKE_LIST {
         return make_list(text, held[crate::WINDOW], n, table);

@@ -10,17 +10,22 @@
 //     make_list ROOM OF    list_point X Y Z     list_search FIRST FRAME
 //     list_search_frames FRAMES FIRST FRAME ROOM OF
 //     list_waterfall XLO XHI YLO YHI ROOM OF
+//     rewrite_tree ROOM OF WORK_ROOM WORK_OF
 //     write_text ROOM OF
 //     compare XLO XHI YLO YHI ZLO ZHI
 // The name of a line that asks is printed before its answer. make_list, list_search_frames and list_waterfall are lent the first ROOM of OF words, all
 // filled; the words written are printed, and how many of the others are as they were. list_search_frames takes the codes of `frame` for so many frames
 // end to end. Of a picture each run of equal words is printed: how many there are, and the frame, or `none`.
+// rewrite_tree is lent two such areas, for the tree and for its work. Each row of the tree is printed, or only the last one where there are over 20; of
+// the work area, how many words are 0, and how many are as they were.
 // write_text is lent the first ROOM of OF bytes, all dots, and the whole buffer is shown as it then is.
 // compare makes the list of its own window and asks it and the tree at every point of the columns, codes and frames; it prints how many products there
 // are, and how often each finding (comparing) is made. A line that is none of these, or has other numbers, or asks of what has, is told and ends the
 // run.
+mod areas;
 mod asking;
 mod pictures;
+mod rewriting;
 
 use lines::Word;
 use lines::rows;
@@ -79,7 +84,7 @@ fn obey_all(text: &[u8]) {
         let word = lines::read_word(
             text,
             start,
-            b"\nrow\nwords\nagain\nzone\nlist\nframe\nwindow\ncolumns\ncodes\nframes\ncheck_table\ntree_point\ntree_search\nlist_point\nlist_search\nlist_search_frames\nlist_waterfall\nmake_list\nwrite_text\ncompare\n",
+            b"\nrow\nwords\nagain\nzone\nlist\nframe\nwindow\ncolumns\ncodes\nframes\ncheck_table\ntree_point\ntree_search\nlist_point\nlist_search\nlist_search_frames\nlist_waterfall\nrewrite_tree\nmake_list\nwrite_text\ncompare\n",
         );
         keep(&mut held, word);
         if !obey(text, at, start, word, &held) {

@@ -1,4 +1,5 @@
 // Pictures, asked and told.
+use crate::areas;
 use lines::answers;
 use lines::numbers;
 use rules::Rectangle;
@@ -9,24 +10,13 @@ ghost use lib.ListN.{length};
 // More than the largest picture.
 const MOST: usize = 16400;
 
-// What a buffer is filled with before the call; it is no frame.
-const FILL: i32 = 7777777;
-
-fn tell_sign(z: i32) {
-    if z < 0 {
-        io::write_all(1, b" -");
-    } else {
-        io::write_all(1, b" ");
-    }
-}
-
 fn tell_frame(z: i32) {
     if z == rules::NO_FRAME {
         io::write_all(1, b" none");
         return;
     }
-    tell_sign(z);
-    io::print_decimal(1, span::size(z as i64));
+    io::write_all(1, b" ");
+    areas::tell_number(z);
 }
 
 // Word i is the last of its run, among the first n.
@@ -71,31 +61,6 @@ fn tell_runs(picture: &[i32], n: usize) {
     }
 }
 
-// 1 for a word after those written that is as it was.
-fn as_it_was(z: i32, written: bool) -> u64
-    ensures { λ r. ⌜ r ≤ 1 ⌝ }
-{
-    if written {
-        return 0;
-    }
-    if z == FILL {
-        return 1;
-    }
-    0
-}
-
-// How many words from n on are as they were.
-fn tell_kept(picture: &[i32], n: usize) {
-    let mut kept: u64 = 0;
-    let mut i: usize = 0;
-    while i < picture.len() {
-        kept += as_it_was(picture[i], i < n);
-        i += 1;
-    }
-    io::write_all(1, b"\tkept");
-    answers::number(kept);
-}
-
 // Draws in the first words of a buffer, and tells how that went and what the buffer holds.
 fn tell_picture(table: &[i32], list: &[u64], q: Rectangle, picture: &mut [i32], room: usize)
     requires { ⌜ room ≤ length (now picture) ⌝ }
@@ -106,11 +71,11 @@ fn tell_picture(table: &[i32], list: &[u64], q: Rectangle, picture: &mut [i32], 
             io::write_all(1, b"wrote");
             answers::number(n as u64);
             tell_runs(picture, n);
-            tell_kept(picture, n);
+            areas::tell_kept(picture, n);
         }
         Written::Refused(r) => {
             answers::refused(r);
-            tell_kept(picture, 0);
+            areas::tell_kept(picture, 0);
         }
     }
 }
@@ -130,7 +95,7 @@ pub fn draw(table: &[i32], list: &[u64], n: [i32; 6]) -> bool {
         ylo: n[2],
         yhi: n[3],
     };
-    let mut picture: [i32; 16400] = [FILL; 16400];
+    let mut picture: [i32; 16400] = [areas::FILL; 16400];
     tell_picture(table, list, q, &mut picture[0..of], room);
     true
 }

@@ -1,13 +1,16 @@
 -- Answers that look right and are not. Each theorem speaks of one good input, at which the rules do not refuse the call, and of every answer that
 -- could go with the impostor's error there: none of them meets the call's record. Beside each input stands the outcome that does (`right-..`).
 -- Assumes nothing.
-use Prim.Native.Nat.{ℕ, _+_, _^_}
+use Prim.Native.Nat.{ℕ, _+_, _^_, _≤_, _<_}
 use native.Mathlib.Omega.{arith}
+use mathlib.Core.Bool.{true}
 use mathlib.Core.List.{List, [], _∷_, _++_, map, flatMap, head-eq-of-cons-eq}
+use mathlib.Core.Option.{none}
 use mathlib.Core.Path.{_≡_, refl, sym, ap, _∙_}
-use lib.Dec.{lit≤}
+use borrow.Author.Tests.{le-leb}
+use lib.Dec.{lit≤, leb}
 use lib.IntN.{ℤ, pos, negsuc, natAbs}
-use lib.ListN.{length, getD, replicate}
+use lib.ListN.{length, getD, replicate, length-replicate, getD-replicate}
 use Rattle.ground.specs.Bits.{selected, placesWhere}
 use Rattle.ground.specs.Lists.{from, allOf, anyOf, keepIf, countIf, findIf, firstOf}
 use Rattle.rules.specs.declared.Axis.the-variants.{Column}
@@ -30,7 +33,7 @@ use Rattle.rules.specs.Verdict.{tableRefusal}
 use Rattle.rules.specs.Tree as tree
 use Rattle.rules.specs.Tree.{Tree, solid, trees, treeOf}
 use Rattle.rules.specs.Inside.{inside}
-use Rattle.rules.specs.Choices.{choices, inOf, outOf, joined, _crossed-with_}
+use Rattle.rules.specs.Choices.{choices, inOf, outOf, joined, _crossed-with_, expansion}
 use Rattle.rules.specs.Products.{stays, trimmed, firsts, products}
 use Rattle.rules.specs.ListWords.{raised, listOf, word, productCount}
 use Rattle.rules.specs.ListFaults.{listRefusal}
@@ -43,10 +46,16 @@ use Rattle.rules.specs.TreeCalls.{TableChecked, TreeLocated, TreeSearche
 use Rattle.rules.specs.Waterfall.{noFrame, newest}
 use Rattle.rules.specs.ListCalls.{zoneList, ListMade, acceptRefusal, ListLocated, ListSearched, screenTriples, ScreenSearched, waterfall, PictureDrawn}
 use Rattle.rules.specs.TextCalls.{TextRead, tableText, TextWritten}
-use Rattle.rules.proofs.Zones.{nought, box, union, inter, diff, q, triangle, turnedRound, cornerCut, layer, columnsOf, at}
+use Rattle.rules.specs.Form.{leaf, _∪_, _∩_, _∖_, formOf, leaves}
+use Rattle.rules.specs.Procedure.{isPrimitive, isUnion, lowest, ended, leftDone, rightDone, until, turn, within, normalize}
+use Rattle.rules.specs.NormalForm.{productOf, productsOf}
+use Rattle.rules.specs.TreeRows.{rowsIn, rowsFrom}
+use Rattle.rules.specs.RewriteCall.{mostRewritten, mostWays, rewriteWords, finishedRows, rewriteRefusal, TreeRewritten}
+use Rattle.rules.proofs.Zones.{nought, box, union, inter, diff, q, triangle, turnedRound, cornerCut, layer, columnsOf, at, stillFits}
 use Rattle.rules.proofs.Settled.{checked-settled, tree-located-settled, tree-searched-settled, list-made-settled}
 use Rattle.rules.proofs.Settled.{list-located-settled, list-searched-settled, screen-searched-settled, picture-drawn-settled}
-use Rattle.rules.proofs.Settled.{text-read-settled, text-written-settled}
+use Rattle.rules.proofs.Settled.{text-read-settled, text-written-settled, tree-rewritten-settled, over-whole}
+use Rattle.rules.proofs.Rewriting.{qRows, rows-of-q, still-fits}
 
 -- ---- the right outcomes at one input of each call: zone Q in columns -100..100, and the text of one box
 
@@ -478,3 +487,86 @@ picture-past-the-window h is = let e : _≡_ {A = ℕ} 1 2 = ap natAbs (sym is �
 
 pub picture-lowest-code-first : {after : List ℤ} {r : Written} → Drawn after r → getD after 0 nought ≡ negsuc 1 → ⊥
 picture-lowest-code-first h is = let e : _≡_ {A = ℕ} 2 2147483648 = ap natAbs (sym is ∙ word-of 0 h) in omega arith
+
+-- ---- of a rewriting, in areas of any words, 24,573 at the least
+
+-- (A ∪ B) ∩ C, B and C apart
+abbrev partFar : List ℤ
+partFar = box nought (pos 9) ++ (box (pos 20) (pos 29) ++ (union 0 1 ++ (box (pos 5) (pos 12) ++ inter 2 3)))
+
+rows-of-partFar : finishedRows partFar ≡ rowsFrom 0 ((leaf 0 ∩ leaf 2) ∪ (leaf 1 ∩ leaf 2))
+unfolding finishedRows formOf leaves trees from flatMap findIf normalize within turn until ended leftDone rightDone isPrimitive isUnion lowest
+rows-of-partFar = refl
+
+-- pruning leaves A ∩ C of it
+pub pruned-partFar : products window (primitives partFar) (treeOf partFar) ≡ productsOf (leaf 0 ∩ leaf 2)
+unfolding trees choices _crossed-with_ firsts products productOf productsOf from keepIf findIf selected placesWhere flatMap
+pruned-partFar = refl
+
+module _ (before work : List ℤ) (fits : rewriteWords ≤ length before) (work-fits : rewriteWords ≤ length work) where
+  abbrev zeros : List ℤ
+  zeros = replicate (length work) nought
+
+  -- at a sound table of few primitives and ways, by the rows that its tree comes to
+  right-at : (t rows : List ℤ) → tableRefusal t ≡ none → leb (length (primitives t)) mostRewritten ≡ true → leb (expansion (treeOf t)) mostWays ≡ true
+      → finishedRows t ≡ rows → TreeRewritten t before (over rows before) work zeros (written.Wrote (length rows))
+  unfolding firstOf
+  right-at t rows sound few many is = record {
+    answer = rw (nothing, is) refl;
+    tree = rw (nothing, is) refl;
+    zeroed = rw nothing (sym (over-whole zeros work (omega (arith, length-replicate (length work) nought))));
+  }
+    where
+      nothing : rewriteRefusal t (length before) (length work) ≡ none
+      nothing = rw (sound, few, many, le-leb rewriteWords (length before) fits, le-leb rewriteWords (length work) work-fits) refl
+
+  pub right-rewrite : TreeRewritten q before (over qRows before) work zeros (written.Wrote 27)
+  unfolding tableRefusal trees choices _crossed-with_ from allOf countIf findIf firstOf flatMap
+  right-rewrite = right-at q qRows refl refl refl rows-of-q
+
+  pub right-still-fits : TreeRewritten stillFits before (over (rowsFrom 0 (((leaf 0 ∩ leaf 1) ∖ leaf 2) ∩ leaf 3)) before) work zeros (written.Wrote 21)
+  unfolding tableRefusal trees choices _crossed-with_ rowsFrom rowsIn from allOf countIf findIf firstOf flatMap
+  right-still-fits = right-at stillFits _ refl refl refl still-fits
+
+  pub right-partFar : TreeRewritten partFar before (over (rowsFrom 0 ((leaf 0 ∩ leaf 2) ∪ (leaf 1 ∩ leaf 2))) before) work zeros (written.Wrote 21)
+  unfolding tableRefusal trees choices _crossed-with_ rowsFrom rowsIn from allOf countIf findIf firstOf flatMap
+  right-partFar = right-at partFar _ refl refl refl rows-of-partFar
+
+  -- each word of a tree's area is that of the right one
+  tree-word : {t after right cleared : List ℤ} {r s : Written} → TreeRewritten t before after work cleared r → TreeRewritten t before right work zeros s
+      → (i : ℕ) → getD after i nought ≡ getD right i nought
+  tree-word h k i = ap (λ (words : List ℤ). getD words i nought) (tree-rewritten-settled h k .1)
+
+  -- one that refuses
+  pub refuses-rewriting : (why : Refusal) {after cleared : List ℤ} → TreeRewritten q before after work cleared (written.Refused why) → ⊥
+  refuses-rewriting why h = let e = tree-rewritten-settled h right-rewrite .0 in never (cc)
+
+  -- one that leaves the tree's area as it was, where word 4 is not by chance the right one
+  pub rewrite-untouched : (getD before 4 nought ≡ pos 3 → ⊥) → {cleared : List ℤ} (r : Written) → TreeRewritten q before before work cleared r → ⊥
+  rewrite-untouched other r h = other (tree-word h right-rewrite 4)
+
+  -- one that does not clear some word of the work area, up to its last
+  pub work-not-cleared : {after cleared : List ℤ} {r : Written} → TreeRewritten q before after work cleared r
+      → (i : ℕ) → i < length work → (getD cleared i nought ≡ nought → ⊥) → ⊥
+  work-not-cleared h i l other =
+      let e = ap (λ (words : List ℤ). getD words i nought) (tree-rewritten-settled h right-rewrite .2) in
+      other (e ∙ getD-replicate (length work) i nought nought l)
+
+  -- one that writes the row of the root first: a union's, and its kind is 3
+  pub rows-root-first : {after cleared : List ℤ} {r : Written} → TreeRewritten q before after work cleared r → getD after 0 nought ≡ pos 3 → ⊥
+  rows-root-first h is = let e : _≡_ {A = ℕ} 3 0 = ap natAbs (sym is ∙ tree-word h right-rewrite 0) in omega arith
+
+  -- one that goes on while 6.5 fits
+  pub goes-on-while-65-fits : {cleared : List ℤ} (r : Written)
+      → TreeRewritten stillFits before (over (rowsFrom 0 (((leaf 0 ∩ leaf 1) ∩ leaf 3) ∖ leaf 2)) before) work cleared r → ⊥
+  unfolding rowsFrom rowsIn
+  goes-on-while-65-fits r h = let e : _≡_ {A = ℕ} 3 2 = ap natAbs (tree-word h right-still-fits 10) in omega arith
+
+  -- one that prunes, whatever stands behind what it wrote: B ∩ C is in the finished tree, though no point is in both
+  pub pruned-rewriting : {after cleared : List ℤ}
+      → TreeRewritten partFar before after work cleared (written.Wrote (length (rowsFrom 0 (leaf 0 ∩ leaf 2)))) → ⊥
+  unfolding rowsFrom rowsIn
+  pruned-rewriting h =
+      let e = tree-rewritten-settled h right-partFar .0 in
+      let n : _≡_ {A = ℕ} 9 21 = cc in
+      omega arith

@@ -1,4 +1,5 @@
 pub mod Zones
+pub mod Rewriting
 pub mod Cases
 pub mod Numbers
 pub mod Lines

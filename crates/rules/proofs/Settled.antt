@@ -1,13 +1,14 @@
--- Every record settles its call: any two outcomes that meet it are the same, and one that is a refusal leaves the lent buffer as it was.
+-- Every record settles its call: any two outcomes that meet it are the same, and one that is a refusal leaves every lent buffer as it was.
 -- Assumes nothing.
-use Prim.Native.Nat.{ℕ, _*_, _≤_, _<_}
+use Prim.Native.Nat.{ℕ, _+_, _-_, _*_, _≤_, _<_}
 use native.Mathlib.Omega.{arith}
 use native.Mathlib.Decide.{decLt}
-use mathlib.Core.List.{List, [], _∷_}
+use mathlib.Core.List.{List, [], _∷_, _++_, append-nil}
 use mathlib.Core.Option.{Option, some}
 use mathlib.Core.Path.{_≡_, refl, sym, ap, subst, _∙_}
-use lib.IntN.{ℤ}
-use lib.ListN.{length}
+use lib.IntN.{ℤ, pos}
+use lib.ListN.{length, getD, drop, replicate, drop-of-length-le}
+use lib.Seq.{getD-append-add, getD-drop}
 use Rattle.ground.specs.Lists.{All, firstOf}
 use Rattle.rules.specs.declared.Checked.{Checked}
 use Rattle.rules.specs.declared.Located.{Located}
@@ -34,6 +35,7 @@ use Rattle.rules.specs.Screen.{tripleWords}
 use Rattle.rules.specs.Waterfall.{pictureWords}
 use Rattle.rules.specs.ListCalls.{zoneList, makeRefusal, ListMade, ListLocated, ListSearched, screenTriples, screenRefusal, ScreenSearched}
 use Rattle.rules.specs.ListCalls.{waterfall, waterfallRefusal, PictureDrawn}
+use Rattle.rules.specs.RewriteCall.{finishedRows, rewriteRefusal, TreeRewritten}
 use Rattle.rules.specs.TextCalls.{tableRead, formRefusal, readRefusal, TextRead, tableText, writeRefusal, TextWritten}
 use Rattle.rules.specs.Boxes.{fullRange}
 use Rattle.rules.specs.Listing.{listingRoom, printed, ZoneListed}
@@ -73,6 +75,11 @@ screen-searched-settled {r = r} {s = s} p q = (written-once r s (p .answer ∙ s
 pub picture-drawn-settled : {t : List ℤ} {list : List ℕ} {q : Rectangle} {before a b : List ℤ} {r s : Written}
     → PictureDrawn t list q before a r → PictureDrawn t list q before b s → (r ≡ s) × (a ≡ b)
 picture-drawn-settled {r = r} {s = s} p q = (written-once r s (p .answer ∙ sym (q .answer)), p .buffer ∙ sym (q .buffer))
+
+pub tree-rewritten-settled : {t before a b work c d : List ℤ} {r s : Written}
+    → TreeRewritten t before a work c r → TreeRewritten t before b work d s → (r ≡ s) × (a ≡ b) × (c ≡ d)
+tree-rewritten-settled {r = r} {s = s} p q =
+    (written-once r s (p .answer ∙ sym (q .answer)), p .tree ∙ sym (q .tree), p .zeroed ∙ sym (q .zeroed))
 
 -- ---- a text stands in one way only
 
@@ -151,3 +158,26 @@ pub picture-drawn-keeps : {t : List ℤ} {list : List ℕ} {q : Rectangle} {befo
     → PictureDrawn t list q before after (Refused r) → after ≡ before
 picture-drawn-keeps {t} {list} {q} {before} p =
     p .buffer ∙ keeps (waterfallRefusal t list q (length before)) (pictureWords q) (waterfall t list q) before (p .answer)
+
+pub tree-rewritten-keeps : {t before after work cleared : List ℤ} {r : Refusal}
+    → TreeRewritten t before after work cleared (Refused r) → (after ≡ before) × (cleared ≡ work)
+tree-rewritten-keeps {t} {before} {work = work} p =
+    let rule : Option Refusal = rewriteRefusal t (length before) (length work) in
+    let kept : (result buffer : List ℤ) → leave rule result buffer ≡ buffer
+    = λ result buffer. keeps rule (length (finishedRows t)) result buffer (p .answer) in
+    (p .tree ∙ kept (finishedRows t) before, p .zeroed ∙ kept (replicate (length work) (pos 0)) work)
+
+-- ---- what stands in a buffer after a result: nothing where that is as long as the buffer, and else what stood there
+
+module _ {A : Type 0} (result before : List A) where
+  pub over-whole : length before ≤ length result → over result before ≡ result
+  over-whole l = ap {B = List A} (λ rest. result ++ rest) (drop-of-length-le before l) ∙ append-nil result
+
+  pub over-rest : (d : A) (i : ℕ) → length result ≤ i → getD (over result before) i d ≡ getD before i d
+  over-rest d i l =
+      let n = length result in
+      let s : i ≡ n + (i - n) = omega arith in
+      ap (λ (j : ℕ). getD (over result before) j d) s
+      ∙ getD-append-add result (drop n before) (i - n) d
+      ∙ getD-drop n before (i - n) d
+      ∙ ap (λ (j : ℕ). getD before j d) (sym s)

@@ -117,3 +117,11 @@ band lo hi = nought ∷ nought ∷ pos 9 ∷ pos lo ∷ pos hi ∷ nought ∷ no
 
 abbrev pub banded : List ℤ
 banded = band 0 100 ++ (band 40 60 ++ diff 0 1)
+
+-- (A ∩ (B - C)) ∩ D, all 0..9
+abbrev pub stillFits : List ℤ
+stillFits = nine ++ (nine ++ (nine ++ (diff 1 2 ++ (inter 0 3 ++ (nine ++ inter 4 5)))))
+
+-- A - (B ∪ C), all 0..9
+abbrev pub cutUnion : List ℤ
+cutUnion = nine ++ (nine ++ (nine ++ (union 1 2 ++ diff 0 3)))

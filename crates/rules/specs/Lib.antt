@@ -10,6 +10,10 @@ pub mod Tree
 pub mod Inside
 pub mod Choices
 pub mod Products
+pub mod Form
+pub mod Procedure
+pub mod NormalForm
+pub mod TreeRows
 pub mod ListWords
 pub mod ListFaults
 pub mod ListInside
@@ -22,5 +26,6 @@ pub mod Waterfall
 pub mod Outcome
 pub mod TreeCalls
 pub mod ListCalls
+pub mod RewriteCall
 pub mod TextCalls
 pub mod Listing

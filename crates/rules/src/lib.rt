@@ -59,6 +59,15 @@ pub const MOST_SIDE: i64 = 128;
 
 pub const NO_FRAME: i32 = -2147483648;
 
+// The primitives and the choices of a zone whose tree is rewritten, the words of a row of the finished tree, and the words of either area.
+pub const MOST_REWRITTEN: usize = 16;
+
+pub const MOST_WAYS: u64 = 256;
+
+pub const TREE_ROW_WORDS: usize = 3;
+
+pub const REWRITE_WORDS: usize = 24573;
+
 pub const ROW_WORDS: usize = 12;
 
 pub const MOST_ROWS: usize = 127;

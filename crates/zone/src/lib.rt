@@ -8,6 +8,7 @@ use rules::Searched;
 use rules::Window;
 use rules::Written;
 ghost use Rattle.rules.specs.ListCalls.{ListMade, ListLocated, ListSearched, ScreenSearched, PictureDrawn};
+ghost use Rattle.rules.specs.RewriteCall.{TreeRewritten};
 ghost use Rattle.rules.specs.TextCalls.{TextRead, TextWritten};
 ghost use Rattle.rules.specs.TreeCalls.{TableChecked, TreeLocated, TreeSearched};
 
@@ -87,6 +88,16 @@ pub fn list_waterfall(
     ensures { λ r. ⌜ PictureDrawn (now (table .entry)) (now (list .entry)) rectangle (now (picture .entry)) (now (picture .exit)) r ⌝ }
 {
     waterfall::list_waterfall(table, list, rectangle, picture)
+}
+
+// Rewrites the zone's tree into normal form by the procedure of document 000, without pruning, and writes the finished tree, three words a row: 0, a
+// primitive's number, 0; or an operation's kind, its left row, its right row. Rows stand in the order left subtree, right subtree, node. Says how many
+// words that took; the words beyond stay. The work area is used on the way, and is 0 to its end then. Refusals: the table's; 14 with the number of
+// primitives, where it is over 16; 15 with the ways of choosing, where these are over 256; 8 with 24573, where either area has fewer words.
+pub fn rewrite_tree(table: &[i32], tree: &mut [i32], work: &mut [i32]) -> Written
+    ensures { λ r. ⌜ TreeRewritten (now (table .entry)) (now (tree .entry)) (now (tree .exit)) (now (work .entry)) (now (work .exit)) r ⌝ }
+{
+    rewrite::rewrite_tree(table, tree, work)
 }
 
 // Reads zone text into a table and says how many words it took; the words beyond stay. Refusals: 13 with the first faulty line, or with 0 where

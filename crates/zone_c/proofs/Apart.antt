@@ -23,6 +23,7 @@ use Rattle.rules.specs.declared.Written.the-variants as written
 use Rattle.rules.specs.Told.{Told, refused, toldChecked, toldLocated, toldSearched, toldWritten}
 use Rattle.rules.specs.TreeCalls.{TableChecked, TreeLocated, TreeSearched}
 use Rattle.rules.specs.ListCalls.{ListMade, ListLocated, ListSearched, ScreenSearched, PictureDrawn}
+use Rattle.rules.specs.RewriteCall.{TreeRewritten}
 use Rattle.rules.specs.TextCalls.{TextRead, TextWritten}
 use Rattle.promises.specs.Possible.{Possible}
 use Rattle.promises.proofs.Possible as law
@@ -95,6 +96,9 @@ list-search-frames-readable t list codes frames place before after = readable wr
 
 pub list-waterfall-readable : (t : List ℤ) (list : List ℕ) (q : Rectangle) (before after : List ℤ) → Readable toldWritten readWritten (PictureDrawn t list q before after)
 list-waterfall-readable t list q before after = readable written-back (λ r. law.list-waterfall-possible)
+
+pub rewrite-readable : (t before after work cleared : List ℤ) → Readable toldWritten readWritten (TreeRewritten t before after work cleared)
+rewrite-readable t before after work cleared = readable written-back (λ r. law.rewrite-tree-possible)
 
 pub read-text-readable : (text : List ℕ) (before after : List ℤ) → Readable toldWritten readWritten (TextRead text before after)
 read-text-readable text before after = readable written-back (λ r. law.read-text-possible)

@@ -10,6 +10,7 @@ use Rattle.rules.specs.declared.Window.{Window}
 use Rattle.rules.specs.Told.{Told, toldChecked, toldLocated, toldSearched, toldWritten}
 use Rattle.rules.specs.TreeCalls.{TableChecked, TreeLocated, TreeSearched}
 use Rattle.rules.specs.ListCalls.{ListMade, ListLocated, ListSearched, ScreenSearched, PictureDrawn}
+use Rattle.rules.specs.RewriteCall.{TreeRewritten}
 use Rattle.rules.specs.TextCalls.{TextRead, TextWritten}
 use Rattle.rules.proofs.Settled as outcome
 use Rattle.answer_c.specs.declared.Answer.{Answer}
@@ -53,6 +54,10 @@ pub list-waterfall-settled : {t : List ℤ} {list : List ℕ} {q : Rectangle} {b
     → Answered toldWritten (PictureDrawn t list q before m) a → Answered toldWritten (PictureDrawn t list q before n) b
     → (a ≡ b) × (m ≡ n)
 list-waterfall-settled p q = let once = outcome.picture-drawn-settled (p .kept) (q .kept) in (same-answer p q (once .0), once .1)
+
+pub rewrite-settled : {t before m n work c d : List ℤ} {a b : Answer}
+    → Answered toldWritten (TreeRewritten t before m work c) a → Answered toldWritten (TreeRewritten t before n work d) b → (a ≡ b) × (m ≡ n) × (c ≡ d)
+rewrite-settled p q = let once = outcome.tree-rewritten-settled (p .kept) (q .kept) in (same-answer p q (once .0), once .1, once .2)
 
 pub read-text-settled : {text : List ℕ} {before m n : List ℤ} {a b : Answer}
     → Answered toldWritten (TextRead text before m) a → Answered toldWritten (TextRead text before n) b → (a ≡ b) × (m ≡ n)

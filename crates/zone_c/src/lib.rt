@@ -7,6 +7,7 @@ use rules::Window;
 ghost use Rattle.rules.specs.Told.{toldChecked, toldLocated, toldSearched, toldWritten};
 ghost use Rattle.rules.specs.TreeCalls.{TableChecked, TreeLocated, TreeSearched};
 ghost use Rattle.rules.specs.ListCalls.{ListMade, ListLocated, ListSearched, ScreenSearched, PictureDrawn};
+ghost use Rattle.rules.specs.RewriteCall.{TreeRewritten};
 ghost use Rattle.rules.specs.TextCalls.{TextRead, TextWritten};
 ghost use Rattle.zone_c.specs.Answered.{Answered};
 ghost use Rattle.zone_c.specs.Lent.{point, place};
@@ -110,6 +111,14 @@ pub extern "C" fn lampholly_list_waterfall(
     ensures { λ r. ⌜ Answered toldWritten (PictureDrawn (now (table .entry)) (now (list .entry)) rectangle (now (picture .entry)) (now (picture .exit))) r ⌝ }
 {
     answer_c::of_written(zone::list_waterfall(table, list, rectangle, picture))
+}
+
+// zone::rewrite_tree: the tree in normal form, by the procedure of document 000.
+#[no_mangle]
+pub extern "C" fn lampholly_rewrite(table: &[i32], tree: &mut [i32], work: &mut [i32]) -> Answer
+    ensures { λ r. ⌜ Answered toldWritten (TreeRewritten (now (table .entry)) (now (tree .entry)) (now (tree .exit)) (now (work .entry)) (now (work .exit))) r ⌝ }
+{
+    answer_c::of_written(zone::rewrite_tree(table, tree, work))
 }
 
 // zone::read_text: reads zone text into a table.

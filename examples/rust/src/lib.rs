@@ -1,12 +1,14 @@
-//! Lampholly from Rust: the ten calls of `include/lampholly.h`, declared once and wrapped. Slices go in, an enum comes out; its
-//! cases are those of the library's own answers. The header says what each call does and when it refuses.
+//! Lampholly from Rust: the eleven calls of `include/lampholly.h`, declared once and wrapped. Slices go in, an enum comes out;
+//! its cases are those of the library's own answers. The header says what each call does and when it refuses.
 
-/// The words or bytes that always suffice for a table, a list, a text, the triples of a screenful and a picture.
+/// The words or bytes that always suffice for a table, a list, a text, the triples of a screenful, a picture, and either area of
+/// a rewriting, which takes no fewer.
 pub const TABLE_WORDS: usize = 1524;
 pub const LIST_WORDS: usize = 131_080;
 pub const TEXT_BYTES: usize = 16_384;
 pub const TRIPLE_WORDS: usize = 1500;
 pub const PICTURE_WORDS: usize = 16_384;
+pub const REWRITE_WORDS: usize = 24_573;
 
 /// What stands in a picture where no frame is inside.
 pub const NO_FRAME: i32 = i32::MIN;
@@ -231,6 +233,20 @@ pub fn list_waterfall(
     })
 }
 
+/// Writes the finished tree, three words a row, and leaves the work area 0 to its end.
+pub fn rewrite_tree(table: &[i32], tree: &mut [i32], work: &mut [i32]) -> Written {
+    written(unsafe {
+        calls::lampholly_rewrite(
+            table.as_ptr(),
+            table.len(),
+            tree.as_mut_ptr(),
+            tree.len(),
+            work.as_mut_ptr(),
+            work.len(),
+        )
+    })
+}
+
 pub fn read_text(text: &[u8], table: &mut [i32]) -> Written {
     written(unsafe {
         calls::lampholly_read_text(text.as_ptr(), text.len(), table.as_mut_ptr(), table.len())
@@ -366,6 +382,14 @@ mod calls {
             rectangle: Rectangle,
             picture: *mut i32,
             room: usize,
+        ) -> Answer;
+        pub fn lampholly_rewrite(
+            table: *const i32,
+            words: usize,
+            tree: *mut i32,
+            room: usize,
+            work: *mut i32,
+            work_room: usize,
         ) -> Answer;
     }
 }
@@ -521,6 +545,59 @@ mod tests {
             list_waterfall(&table, &list, wide, &mut picture),
             Written::Refused(refused(6, 1))
         );
+    }
+
+    #[test]
+    fn rewrites_q() {
+        let (mut tree, mut work) = ([7; REWRITE_WORDS], [7; REWRITE_WORDS]);
+        for (room, work_room) in [(24_572, 24_573), (24_573, 24_572)] {
+            let answer = rewrite_tree(&q(), &mut tree[..room], &mut work[..work_room]);
+            assert_eq!(answer, Written::Refused(refused(8, 24_573)));
+        }
+        assert_eq!((tree, work), ([7; REWRITE_WORDS], [7; REWRITE_WORDS]));
+        let answer = rewrite_tree(&q(), &mut tree, &mut work);
+        assert_eq!(answer, Written::Wrote(27));
+        let mut right = [7; REWRITE_WORDS];
+        right[..15].copy_from_slice(&[0, 0, 0, 0, 3, 0, 4, 0, 1, 0, 1, 0, 5, 2, 3]);
+        right[15..27].copy_from_slice(&[0, 2, 0, 0, 3, 0, 4, 5, 6, 3, 4, 7]);
+        assert_eq!((tree, work), (right, [0; REWRITE_WORDS]));
+    }
+
+    /// Adds a row and tells its number.
+    fn add(table: &mut Vec<i32>, words: [i32; 3]) -> i32 {
+        table.extend(words);
+        table.extend([0; 9]);
+        table.len() as i32 / 12 - 1
+    }
+
+    /// Unions of so many boxes each, intersected.
+    fn unions(sizes: &[usize]) -> Vec<i32> {
+        let mut table = Vec::new();
+        let mut whole = None;
+        for &size in sizes {
+            let mut union = add(&mut table, [0, 0, 9]);
+            for _ in 1..size {
+                let more = add(&mut table, [0, 0, 9]);
+                union = add(&mut table, [3, union, more]);
+            }
+            whole = Some(match whole {
+                None => union,
+                Some(before) => add(&mut table, [4, before, union]),
+            });
+        }
+        table
+    }
+
+    #[test]
+    fn refuses_to_rewrite() {
+        for (sizes, refusal) in [
+            (&[17][..], refused(14, 17)),
+            (&[3, 3, 3, 3, 4], refused(15, 324)),
+            (&[2; 8], refused(8, 24_573)),
+        ] {
+            let answer = rewrite_tree(&unions(sizes), &mut [], &mut []);
+            assert_eq!(answer, Written::Refused(refusal));
+        }
     }
 
     #[test]

@@ -6,7 +6,8 @@ use borrow.Author.Needs.{needs}
 use lib.ListN.{length-replicate}
 use Rattle.laws.proofs.Soundness.{table-sound}
 use Rattle.laws.specs.Sound.{Sound}
-use Rattle.list.proofs.Calls.{made-many, expansion-ways}
+use Rattle.choice.proofs.Steps.{expansion-ways}
+use Rattle.list.proofs.Calls.{made-many}
 use Rattle.list.proofs.make_for.Statement.{statement}
 use Rattle.list.proofs.make_for.Tie as tie
 

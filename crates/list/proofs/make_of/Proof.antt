@@ -18,7 +18,8 @@ use Rattle.rules.specs.declared.Written.the-variants as written
 use Rattle.laws.proofs.Soundness.{table-sound}
 use Rattle.laws.specs.Sound.{Sound}
 use Rattle.walk.proofs.Tracks.{put-length}
-use Rattle.list.proofs.Calls.{made-room, made-fine, expansion-ways, zone-words, walked, walked-products, walked-few, list-written}
+use Rattle.choice.proofs.Steps.{expansion-ways}
+use Rattle.list.proofs.Calls.{made-room, made-fine, zone-words, walked, walked-products, walked-few, list-written}
 use Rattle.list.proofs.make_of.Statement.{statement}
 use Rattle.list.proofs.make_of.Tie as tie
 
