@@ -1,4 +1,7 @@
 // Accepting a list: its check word by word, and that it was made for as many primitives as the table has.
+
+#![tactic(auto)]
+
 ghost use Rattle.std.specs.Prelude.{suc, ◌+◌, ◌*◌, ◌^◌, ◌≤◌, ◌<◌, [], ◌∷◌, ◌≡◌, length};
 ghost use Rattle.ground.specs.Lists.{first_of, rulings};
 ghost use Rattle.rules.specs.Table.{primitives};

@@ -1,5 +1,8 @@
 // A line of points by the stretches of the primitives: the highest place that a zone holds of it. From a place down to the next end of a stretch
 // nothing changes, so that two steps for each primitive and one answer any line, the codes of a column or the frames of a place.
+
+#![tactic(auto)]
+
 ghost use Rattle.std.specs.Prelude.{ℕ, ◌≤◌, ◌<◌, ◌+◌, true, false, List, [], ◌∷◌, ◌++◌, ◌≡◌, length};
 ghost use Rattle.rules.specs.declared.Primitive.{Primitive};
 ghost use Rattle.rules.specs.Boxes.{holds, everywhere};
@@ -16,7 +19,7 @@ use span::{Line, Stretch};
 use table::Leaf;
 
 // How many primitives were met, and how many of them have an entry.
-#[derive(Drop)]
+#[derive(Clone, Copy)]
 pub struct Lined {
     pub count: usize,
     pub kept: usize,

@@ -1,4 +1,7 @@
 // Asking a list that was accepted: a point of its window, and a frame that lies in it.
+
+#![tactic(auto)]
+
 ghost use Rattle.std.proofs.Math.Option.{none};
 ghost use Rattle.std.specs.Prelude.{◌≡◌};
 ghost use Rattle.rules.specs.Boxes.{window_box};

@@ -1,4 +1,7 @@
 // C's answer: three numbers that tell the outcome of a call.
+
+#![tactic(auto)]
+
 ghost use Rattle.std.specs.Prelude.{◌≡◌};
 ghost use Rattle.rules.specs.Told.{told_checked, told_located, told_searched, told_written};
 ghost use Rattle.answer_c.specs.Answers.{answer_of};
@@ -8,7 +11,7 @@ use rules::{Checked, Located, Searched, Written};
 // The refusal's number, 0 where nothing is refused; then its value, 1 for inside, the words or bytes written, or the position of the first inside
 // sample; then the number of inside samples. What is not named is 0.
 #[repr(C)]
-#[derive(Drop)]
+#[derive(Clone, Copy)]
 pub struct Answer {
     pub refusal: u64,
     pub value: u64,

@@ -1,4 +1,7 @@
 // Rectangles of columns and codes on which a primitive's answer does not change: the answer at one of their points is that of all.
+
+#![tactic(auto)]
+
 ghost use Rattle.std.specs.Prelude.{◌≤◌, ◌<◌, true, ◌≡◌};
 ghost use Rattle.rules.specs.declared.Axis.TheVariants.{Frame};
 ghost use Rattle.rules.specs.Boxes.{holds, everywhere};
@@ -11,7 +14,7 @@ ghost use Rattle.calm.specs.Calms.{edges_of, Ranged, In, Narrowed, NarrowedBy};
 use rules::{BoxShape, Point, Primitive};
 
 // Columns up to `until`, codes from `floor` to `roof`.
-#[derive(Drop)]
+#[derive(Clone, Copy)]
 pub struct Rect {
     pub until: u64,
     pub floor: u64,
@@ -19,7 +22,7 @@ pub struct Rect {
 }
 
 // The edges of a primitive's box; whether it has this frame; and how far around the point its answer stays within its box.
-#[derive(Drop)]
+#[derive(Clone, Copy)]
 pub struct Edges {
     pub xlo: u64,
     pub xhi: u64,

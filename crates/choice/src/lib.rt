@@ -1,4 +1,7 @@
 // The ways of choosing in a row's tree, by recursion on the row: how many there are, and the k-th of them.
+
+#![tactic(auto)]
+
 ghost use Rattle.std.specs.Prelude.{◌+◌, ◌<◌, ◌≡◌};
 ghost use lib.ListN.{length};
 ghost use Rattle.rules.specs.Choices.{joined};
@@ -11,7 +14,7 @@ use rules::{Product, Row};
 use table::Leaf;
 
 // What a row is on a side: a primitive's bit, in or out, or two parts, each a row and its side, of which either is chosen, or both.
-#[derive(Drop)]
+#[derive(Clone, Copy)]
 pub enum Step {
     With(u64),
     Without(u64),

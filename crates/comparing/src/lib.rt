@@ -2,13 +2,16 @@
 //
 // At a point one of six findings is made: list and tree say outside; both say inside; the list refuses a point whose column is out of its window; or
 // whose code is, or its frame; or else, and then they disagree.
+
+#![tactic(auto)]
+
 ghost use Rattle.std.specs.Prelude.{◌≤◌, length};
 
 use lines::{answers, numbers};
 use rules::{Located, Point, Refusal, Window, Written};
 
 // Where in a text the coordinates of each axis stand.
-#[derive(Drop)]
+#[derive(Clone, Copy)]
 pub struct Axes {
     pub columns: usize,
     pub codes: usize,

@@ -5,6 +5,9 @@
 //     window XLO XHI YLO YHI ZLO ZHI     the window from here on; before the first it is the full range
 //     show FILE                          says the text of a file
 //     explain FILE                       tells the ways of the zone of a file
+
+#![tactic(auto)]
+
 use lines::numbers;
 use rules::Window;
 

@@ -1,5 +1,8 @@
 // The teaching program: tells the ways of choosing of the zone text on standard input, what becomes of each in a window, and the list. The window's
 // six bounds are its arguments; without arguments it is the full range.
+
+#![tactic(auto)]
+
 use rules::Window;
 
 // The bound that an argument gives. One that is no number of 32 bits is none of its axis either, and 6 is refused for it.

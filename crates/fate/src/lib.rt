@@ -1,4 +1,7 @@
 // What becomes of a way of choosing in a window: its product's box, the axis on which that is empty, or the product after its cuts.
+
+#![tactic(auto)]
+
 pub mod told;
 
 ghost use Rattle.std.specs.Prelude.{◌+◌, ◌<◌, ◌≡◌, get_or};
@@ -17,7 +20,7 @@ use rules::{Axis, BoxShape, Product, Window};
 use table::Leaf;
 
 // Dropped, on the first axis on which the box is empty, or kept as this product.
-#[derive(Drop)]
+#[derive(Clone, Copy)]
 pub enum Fate {
     Dropped(Axis),
     Kept(Product),

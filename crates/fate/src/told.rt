@@ -13,7 +13,7 @@ use crate::Fate;
 use rules::{Axis, Product, Window};
 
 // What a way comes to: nothing, an earlier way's product, or a product of the list that no earlier way came to.
-#[derive(Drop)]
+#[derive(Clone, Copy)]
 pub enum End {
     Dropped(Axis),
     Again(Product, u64),
@@ -21,7 +21,7 @@ pub enum End {
 }
 
 // A way's choice, what it comes to, and how many products have been told by now.
-#[derive(Drop)]
+#[derive(Clone, Copy)]
 pub struct Told {
     pub chosen: Product,
     pub end: End,

@@ -1,4 +1,7 @@
 // The masks of rows with two parts, from the last row to the first, so that a row's parts have theirs before it.
+
+#![tactic(auto)]
+
 ghost use Rattle.std.specs.Prelude.{◌+◌, ◌*◌, ◌<◌, ◌≡◌, length, set, if◌then◌else◌};
 ghost use Rattle.std.proofs.lemmas.List.Edits.{sets};
 ghost use Rattle.rows.specs.Rows.{kind_at, left_at, Inner, SoundLinks};

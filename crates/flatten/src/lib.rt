@@ -1,4 +1,7 @@
 // The tree of a table in prefix form, a word a node.
+
+#![tactic(auto)]
+
 ghost use Rattle.std.specs.Prelude.{◌+◌, ◌≤◌, ◌<◌, ◌≡◌, length};
 ghost use Rattle.rules.specs.Table.{row_count, primitives, primitives_before};
 ghost use Rattle.rules.specs.TreeRows.{rows_in};
@@ -10,7 +13,7 @@ use rules::Row;
 use table::Leaf;
 
 // A row is a primitive, or an operation on two rows.
-#[derive(Drop)]
+#[derive(Clone, Copy)]
 pub enum Part {
     Primitive,
     Node(usize, usize, usize),

@@ -1,4 +1,7 @@
 // Where samples stand: the check of a frame, the point of a sample, and the tally of a search.
+
+#![tactic(auto)]
+
 ghost use Rattle.std.specs.Prelude.{◌≤◌, ◌<◌, true, ◌≡◌, length};
 ghost use Rattle.std.proofs.Math.Option.{none};
 ghost use Rattle.rules.specs.Boxes.{holds, everywhere};
@@ -11,7 +14,7 @@ ghost use Rattle.frame.specs.Tallies.{columns_right, seen, stepped};
 use rules::{Axis, Checked, Place, Point, Searched};
 
 // The first inside sample so far, and how many there are.
-#[derive(Drop)]
+#[derive(Clone, Copy)]
 pub struct Tally {
     pub first: usize,
     pub count: usize,

@@ -1,5 +1,8 @@
 // Which primitives hold a point, and how far around it that stays so. Whoever asks at a point asks here, so that the test of a primitive stands in
 // one loop and is compiled once.
+
+#![tactic(auto)]
+
 ghost use Rattle.std.specs.Prelude.{◌+◌, ◌<◌, true, ◌≡◌};
 ghost use Rattle.rules.specs.Boxes.{holds, everywhere};
 ghost use Rattle.rules.specs.Table.{row_count, primitives_before, primitives};
@@ -12,7 +15,7 @@ use rules::Point;
 use table::Leaf;
 
 // The primitives that were found to hold the point, and the rectangle on which none of those that were met changes its answer.
-#[derive(Drop)]
+#[derive(Clone, Copy)]
 pub struct Held {
     pub found: Gathered,
     pub rect: Rect,

@@ -1,5 +1,8 @@
 // The plan of a zone laid out as rows in the order of the walk: a row, then its right part, then its left part; their links, and the masks that
 // let the walk leave out whole blocks.
+
+#![tactic(auto)]
+
 ghost use Rattle.std.specs.Prelude.{◌+◌, ◌<◌, ◌≡◌, length};
 ghost use Rattle.rules.specs.Table.{row_count};
 ghost use Rattle.sizing.specs.Sizes.{Given, SizedTo};

@@ -1,10 +1,13 @@
 // A place of a line, and the stretches that have it: nothing changes until the next end of a stretch. This knows nothing of zones.
+
+#![tactic(auto)]
+
 ghost use Rattle.std.specs.Prelude.{◌≤◌, ◌≡◌, length, if◌then◌else◌};
 ghost use Rattle.span.specs.Along.{between};
 ghost use Rattle.level.specs.Levels.{Steady, Levels};
 
 // The marks that a place has, and the least place down to which they stay the same.
-#[derive(Drop)]
+#[derive(Clone, Copy)]
 pub struct Shelf {
     pub set: u64,
     pub floor: u64,

@@ -1,6 +1,9 @@
 // Lines of data for the programs. A line is a name and a tab, which it may lack, a word, and numbers with a space before each:
 //     case 5, column 8<tab>tree_point 8 0 0
 // An empty line, and one that begins with #, is for the reader.
+
+#![tactic(auto)]
+
 pub mod answers;
 pub mod numbers;
 pub mod rows;
@@ -10,14 +13,14 @@ ghost use Rattle.std.specs.Prelude.{◌≤◌, ◌<◌, length};
 ghost use Rattle.io.specs.Counts.{IsPrefixLen};
 
 // Whether what was read is right, and how many places are filled now.
-#[derive(Drop)]
+#[derive(Clone, Copy)]
 pub struct Filled {
     pub right: bool,
     pub count: usize,
 }
 
 // The place of a word among others, and the position after it.
-#[derive(Drop)]
+#[derive(Clone, Copy)]
 pub struct Word {
     pub place: usize,
     pub next: usize,

@@ -6,7 +6,7 @@ use number::Number;
 use rules::Window;
 
 // A window, and whether it was read right.
-#[derive(Drop)]
+#[derive(Clone, Copy)]
 pub struct Bounds {
     pub right: bool,
     pub window: Window,

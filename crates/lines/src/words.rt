@@ -4,14 +4,14 @@ ghost use Rattle.std.specs.Prelude.{◌≤◌, ◌<◌, length};
 use crate::{Filled, numbers};
 
 // Whether a value could grow, and what it is then.
-#[derive(Drop)]
+#[derive(Clone, Copy)]
 struct Grown {
     right: bool,
     value: u64,
 }
 
 // A word, and the position after it.
-#[derive(Drop)]
+#[derive(Clone, Copy)]
 struct Digits {
     value: u64,
     next: usize,

@@ -1,4 +1,7 @@
 // Making the list of a zone and a window, by one walk over the ways of choosing.
+
+#![tactic(auto)]
+
 ghost use Rattle.std.specs.Prelude.{◌≤◌, ◌≡◌, length};
 ghost use Rattle.std.proofs.Math.Option.{none};
 ghost use Rattle.rules.specs.Table.{primitives};

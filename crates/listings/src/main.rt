@@ -1,5 +1,7 @@
 // Lists every text of data/, 00, 01, .., as the listing program does, and prints its number before it.
 
+#![tactic(auto)]
+
 // Lists the text of this number, and answers whether there is one.
 fn list_numbered(k: u64) -> bool {
     let mut name: [u8; 2] = [b'0'; 2];

@@ -1,4 +1,7 @@
 // How far around a point a primitive's answer stays as it is within the primitive's box.
+
+#![tactic(auto)]
+
 ghost use Rattle.std.specs.Prelude.{◌+◌, ◌≤◌, true, ◌≡◌, nat_abs, ◌-ℤ◌};
 ghost use Rattle.rules.specs.declared.Primitive.TheVariants as primitive;
 ghost use Rattle.rules.specs.Boxes.{holds, everywhere};

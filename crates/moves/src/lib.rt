@@ -1,5 +1,8 @@
 // Words moved in the work area, for each of the rewrites. A node's word is its operation, which is 16 and the kind, and 32 times the words of its left part,
 // so that its right part is found at once; the words of both parts follow it.
+
+#![tactic(auto)]
+
 ghost use Rattle.std.specs.Prelude.{◌+◌, ◌*◌, ◌-◌, ◌<◌, ◌≤◌, ◌≡◌, pos, length, set};
 ghost use Rattle.moves.specs.Moves.{most_words, IsWord, Opened, Copied, PutTwo, LeanTo, SplitTo, SwapTo, ShareTo};
 

@@ -1,9 +1,12 @@
 // The procedure of document 000 on the work area, which holds the tree in prefix form: a node's word, the words of its left part, those of its right part.
+
+#![tactic(auto)]
+
 ghost use Rattle.std.specs.Prelude.{◌+◌, ◌*◌, ◌<◌};
 ghost use Rattle.normal.specs.Held.{HeadAt, LeftAt, TreeAt, NodeAt, Node, OnRight, ByRight, OnLeft, ByLeft, Rewrote, Reduced, Widens, Widened, AgainAt, Normalized};
 
 // Whether a rewrite was made, and how many words are in use then.
-#[derive(Drop)]
+#[derive(Clone, Copy)]
 pub struct Turn {
     pub took: bool,
     pub used: usize,

@@ -1,4 +1,7 @@
 // Numbers as text: writing one into a lent buffer, and reading the one that stands at a position of a text.
+
+#![tactic(auto)]
+
 ghost use Rattle.std.specs.Prelude.{◌+◌, ◌-◌, ◌^◌, ◌≤◌, ◌<◌, true, ◌≡◌, pos, neg_ℤ, nat_abs, length, drop};
 ghost use Rattle.ground.specs.Tests.{Says};
 ghost use Rattle.rules.specs.Text.{number_text};
@@ -7,7 +10,7 @@ ghost use Rattle.number.specs.Writing.{Put};
 ghost use Rattle.number.specs.Reading.{is_a_digit, ReadsNumber, grown, scanned, Confirmed};
 
 // Whether a number stands at a position; then which one, and the position after it.
-#[derive(Drop)]
+#[derive(Clone, Copy)]
 pub struct Number {
     pub right: bool,
     pub value: i32,
@@ -15,7 +18,7 @@ pub struct Number {
 }
 
 // What a run of digits is worth, and the position after it.
-#[derive(Drop)]
+#[derive(Clone, Copy)]
 pub struct Run {
     pub value: u64,
     pub next: usize,

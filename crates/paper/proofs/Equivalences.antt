@@ -132,25 +132,25 @@ least_8 : {X Y : Form} {i : ℕ} → Least 80 ((X ∪ Y) ∩ leaf i)
 least_8 j W rule8 = omega arith
 
 none_at_leaf : {i : ℕ} → NoRule (leaf i)
-none_at_leaf k U = elim [ ]
+none_at_leaf k U h = elim h [ ]
 
 none_at_union : {X Y : Form} → NoRule (X ∪ Y)
-none_at_union k U = elim [ ]
+none_at_union k U h = elim h [ ]
 
 none_at_leaf_∩ : {i j : ℕ} → NoRule (leaf j ∩ leaf i)
-none_at_leaf_∩ k U = elim [ ]
+none_at_leaf_∩ k U h = elim h [ ]
 
 none_at_∩_∩ : {X Y : Form} {i : ℕ} → NoRule ((X ∩ Y) ∩ leaf i)
-none_at_∩_∩ k U = elim [ ]
+none_at_∩_∩ k U h = elim h [ ]
 
 none_at_leaf_∖ : {i j : ℕ} → NoRule (leaf j ∖ leaf i)
-none_at_leaf_∖ k U = elim [ ]
+none_at_leaf_∖ k U h = elim h [ ]
 
 none_at_∩_∖ : {X Y : Form} {i : ℕ} → NoRule ((X ∩ Y) ∖ leaf i)
-none_at_∩_∖ k U = elim [ ]
+none_at_∩_∖ k U h = elim h [ ]
 
 none_at_∖_∖ : {X Y : Form} {i : ℕ} → NoRule ((X ∖ Y) ∖ leaf i)
-none_at_∖_∖ k U = elim [ ]
+none_at_∖_∖ k U h = elim h [ ]
 
 -- `lowest` IS THE LOWEST THAT FITS
 pub the_lowest : (T : Form) → Lowest T (lowest T)

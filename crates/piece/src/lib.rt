@@ -1,4 +1,7 @@
 // Pieces of zone text, up to a line. Each piece is looked for at a position and says whether it stands there, and where it ends.
+
+#![tactic(auto)]
+
 ghost use Rattle.std.specs.Prelude.{◌+◌, ◌≤◌, ◌≡◌, length};
 ghost use Rattle.rules.specs.Kinds.{kind_number};
 ghost use Rattle.rules.specs.Text.{kind_name};
@@ -9,14 +12,14 @@ use number::Number;
 use rules::Kind;
 
 // Whether a piece stands at a position, and the position after it.
-#[derive(Drop)]
+#[derive(Clone, Copy)]
 pub struct Piece {
     pub right: bool,
     pub next: usize,
 }
 
 // The same of a kind's name, and which.
-#[derive(Drop)]
+#[derive(Clone, Copy)]
 pub struct Name {
     pub right: bool,
     pub kind: Kind,
@@ -24,7 +27,7 @@ pub struct Name {
 }
 
 // The same of a row count, and how many rows.
-#[derive(Drop)]
+#[derive(Clone, Copy)]
 pub struct Count {
     pub right: bool,
     pub rows: usize,

@@ -1,5 +1,8 @@
 // What the listing program does: a text on a descriptor is read, its zone is listed, and what is printed for it goes to standard output. `listings`
 // does the same with its texts: a bound that is too small for one is too small for both, and shows there.
+
+#![tactic(auto)]
+
 ghost use Rattle.std.specs.Prelude.{◌≤◌, length};
 ghost use Rattle.rules.specs.Listing.{ZoneListed};
 ghost use Rattle.number.specs.Writing.{Put};

@@ -1,4 +1,7 @@
 // The places of a walk: the one that it goes to next, and those that are put aside.
+
+#![tactic(auto)]
+
 ghost use Rattle.std.specs.Prelude.{◌+◌, ◌<◌, ◌∷◌, ◌≡◌, eqb, length, if◌then◌else◌};
 ghost use Rattle.rows.specs.Rows.{left_at};
 ghost use Rattle.places.specs.Places.{onward_of, aside_of, places_of};
@@ -6,7 +9,7 @@ ghost use Rattle.places.specs.Places.{onward_of, aside_of, places_of};
 use rows::fields;
 
 // Where a walk stands: the row that it comes to, what is chosen so far, and what is still in reach.
-#[derive(Drop)]
+#[derive(Clone, Copy)]
 pub struct Place {
     pub row: usize,
     pub plain: u64,

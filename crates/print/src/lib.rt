@@ -1,4 +1,7 @@
 // What the listing program prints, put into a buffer: the lines of a list, or the line of a refusal.
+
+#![tactic(auto)]
+
 ghost use Rattle.std.specs.Prelude.{◌+◌, ◌*◌, ◌≤◌, [], ◌∷◌, ◌++◌, length};
 ghost use Rattle.rules.specs.ListWords.{product_count, place_of, products_in};
 ghost use Rattle.rules.specs.Listing.{word_text, list_lines, refusal_line};

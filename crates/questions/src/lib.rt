@@ -22,6 +22,9 @@
 // compare makes the list of its own window and asks it and the tree at every point of the columns, codes and frames; it prints how many products there
 // are, and how often each finding (comparing) is made. A line that is none of these, or has other numbers, or asks of what has, is told and ends the
 // run.
+
+#![tactic(auto)]
+
 mod areas;
 mod asking;
 mod pictures;

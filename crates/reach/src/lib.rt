@@ -1,4 +1,7 @@
 // Which primitives' boxes share a point: with the window, with each other, and with a product's box. Sets of primitives are masks, primitive i as bit i.
+
+#![tactic(auto)]
+
 ghost use Rattle.std.specs.Prelude.{◌+◌, ◌<◌, ◌≡◌};
 ghost use Rattle.std.proofs.Math.Option.{some};
 ghost use Rattle.rules.specs.Boxes.{window_box, share};
@@ -15,7 +18,7 @@ use rules::{BoxShape, Window};
 use table::Leaf;
 
 // The primitives that have passed: those of which a test holds, and how many there were.
-#[derive(Drop)]
+#[derive(Clone, Copy)]
 pub struct Gathered {
     pub set: u64,
     pub count: usize,

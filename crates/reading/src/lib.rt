@@ -1,4 +1,7 @@
 // Reading zone text, line by line into a table.
+
+#![tactic(auto)]
+
 ghost use Rattle.std.specs.Prelude.{◌≤◌, ◌≡◌, pos, length, replicate};
 ghost use Rattle.std.proofs.Math.Option.{none};
 ghost use Rattle.rules.specs.Verdict.{table_refusal};
@@ -10,7 +13,7 @@ ghost use Rattle.reading.specs.Reading.{Begun, FormRead, Given};
 use rules::{Checked, Refusal, Written};
 
 // A text that breaks its form, from which line on; or that of so many rows.
-#[derive(Drop)]
+#[derive(Clone, Copy)]
 pub enum Form {
     Faulty(usize),
     Spelt(usize),

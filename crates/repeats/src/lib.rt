@@ -1,4 +1,7 @@
 // Whether a choice repeats an earlier one: told by its bits and the rows alone.
+
+#![tactic(auto)]
+
 ghost use Rattle.std.specs.Prelude.{◌<◌, ◌&&◌, ◌≡◌};
 ghost use Rattle.std.specs.Int.Bits.{bit_and};
 ghost use Rattle.laws.specs.Plans.{blank};

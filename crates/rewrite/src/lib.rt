@@ -1,4 +1,7 @@
 // The engine of document 000: the tree of a table, rewritten into normal form.
+
+#![tactic(auto)]
+
 ghost use Rattle.std.specs.Prelude.{◌≤◌, ◌≡◌, length};
 ghost use Rattle.std.proofs.Math.Option.{none};
 ghost use Rattle.rules.specs.Choices.{expansion};

@@ -1,4 +1,7 @@
 // The rows of a plan as they lie in two arrays, read and put.
+
+#![tactic(auto)]
+
 pub mod fields;
 mod puts;
 

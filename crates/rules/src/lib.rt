@@ -1,7 +1,9 @@
 // The types that the rules speak of, and their limits. What they mean stands in specs/; there is no function here.
 
+#![tactic(auto)]
+
 // The axes: sample columns, ADC codes, frame numbers.
-#[derive(Drop)]
+#[derive(Clone, Copy)]
 pub enum Axis {
     Column,
     Code,
@@ -76,7 +78,7 @@ pub const MOST_ROWS: usize = 127;
 pub const MOST_BYTES: usize = 16384;
 
 // Sample column, ADC code, frame number.
-#[derive(Drop)]
+#[derive(Clone, Copy)]
 pub struct Point {
     pub x: i32,
     pub y: i32,
@@ -85,7 +87,7 @@ pub struct Point {
 
 // The columns, codes and frames that a list is made for; both ends belong to it. C hands it over as it stands.
 #[repr(C)]
-#[derive(Drop)]
+#[derive(Clone, Copy)]
 pub struct Window {
     pub xlo: i32,
     pub xhi: i32,
@@ -97,7 +99,7 @@ pub struct Window {
 
 // The columns and codes of a picture; both ends belong to it. C hands it over as it stands.
 #[repr(C)]
-#[derive(Drop)]
+#[derive(Clone, Copy)]
 pub struct Rectangle {
     pub xlo: i32,
     pub xhi: i32,
@@ -106,14 +108,14 @@ pub struct Rectangle {
 }
 
 // Where a frame's samples stand: the column of sample 0, and the frame number.
-#[derive(Drop)]
+#[derive(Clone, Copy)]
 pub struct Place {
     pub first: i32,
     pub frame: i32,
 }
 
 // The kinds of rows, as word 0 of a row names them.
-#[derive(Drop)]
+#[derive(Clone, Copy)]
 pub enum Kind {
     Box,
     Wedge,
@@ -124,7 +126,7 @@ pub enum Kind {
     Triangle,
 }
 
-#[derive(Drop)]
+#[derive(Clone, Copy)]
 pub struct BoxShape {
     pub xlo: i32,
     pub xhi: i32,
@@ -135,7 +137,7 @@ pub struct BoxShape {
 }
 
 // The part of a box where ax + by + cz <= d.
-#[derive(Drop)]
+#[derive(Clone, Copy)]
 pub struct WedgeShape {
     pub bounds: BoxShape,
     pub a: i32,
@@ -145,7 +147,7 @@ pub struct WedgeShape {
 }
 
 // An ellipse over columns and codes, the same in each of its frames.
-#[derive(Drop)]
+#[derive(Clone, Copy)]
 pub struct DrumShape {
     pub cx: i32,
     pub cy: i32,
@@ -156,14 +158,14 @@ pub struct DrumShape {
 }
 
 // A column and a code.
-#[derive(Drop)]
+#[derive(Clone, Copy)]
 pub struct Corner {
     pub x: i32,
     pub y: i32,
 }
 
 // What lies between three corners, the same in each of its frames.
-#[derive(Drop)]
+#[derive(Clone, Copy)]
 pub struct TriangleShape {
     pub first: Corner,
     pub second: Corner,
@@ -172,7 +174,7 @@ pub struct TriangleShape {
     pub zhi: i32,
 }
 
-#[derive(Drop)]
+#[derive(Clone, Copy)]
 pub enum Primitive {
     Box(BoxShape),
     Wedge(WedgeShape),
@@ -181,7 +183,7 @@ pub enum Primitive {
 }
 
 // A row of the table: a primitive, or an operation on two earlier rows, left and right.
-#[derive(Drop)]
+#[derive(Clone, Copy)]
 pub enum Row {
     Solid(Primitive),
     Union(usize, usize),
@@ -190,28 +192,28 @@ pub enum Row {
 }
 
 // Two sets of primitives, primitive i as bit i: those a point is in, and those it is out of, the cuts.
-#[derive(Drop)]
+#[derive(Clone, Copy)]
 pub struct Product {
     pub plain: u64,
     pub cuts: u64,
 }
 
 // Why a call did nothing: a number of the rules' table of refusals, and the value that goes with it.
-#[derive(Drop)]
+#[derive(Clone, Copy)]
 pub struct Refusal {
     pub number: u64,
     pub value: u64,
 }
 
 // What the check of a table answers.
-#[derive(Drop)]
+#[derive(Clone, Copy)]
 pub enum Checked {
     Sound,
     Refused(Refusal),
 }
 
 // What a question about one point answers.
-#[derive(Drop)]
+#[derive(Clone, Copy)]
 pub enum Located {
     Inside,
     Outside,
@@ -219,7 +221,7 @@ pub enum Located {
 }
 
 // What the search of a frame answers.
-#[derive(Drop)]
+#[derive(Clone, Copy)]
 pub enum Searched {
     Clear,
     Hit { first: usize, count: usize },
@@ -227,7 +229,7 @@ pub enum Searched {
 }
 
 // What a call that writes answers: how many words or bytes it wrote.
-#[derive(Drop)]
+#[derive(Clone, Copy)]
 pub enum Written {
     Wrote(usize),
     Refused(Refusal),

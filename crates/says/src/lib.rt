@@ -1,4 +1,7 @@
 // What a tree and a list say of a point, from the set of the primitives that hold it, primitive i as bit i.
+
+#![tactic(auto)]
+
 ghost use Rattle.std.specs.Prelude.{ℕ, ◌+◌, ◌<◌, ◌≡◌};
 ghost use Rattle.rules.specs.Table.{row_count};
 ghost use Rattle.rules.specs.Tree.{tree_of};
@@ -11,7 +14,7 @@ ghost use Rattle.says.specs.Saids.{Said};
 use rules::{Product, Row};
 
 // Which is asked: the tree of a table, or a list.
-#[derive(Drop)]
+#[derive(Clone, Copy)]
 pub enum Asked {
     Tree,
     List,

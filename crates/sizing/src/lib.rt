@@ -1,4 +1,7 @@
 // How many rows of the plan each row of a table takes.
+
+#![tactic(auto)]
+
 ghost use Rattle.std.specs.Prelude.{◌+◌, ◌<◌, ◌≡◌, length, get_or};
 ghost use Rattle.rules.specs.Table.{row_count};
 ghost use Rattle.sizing.specs.Sizes.{Given, SizedTo};

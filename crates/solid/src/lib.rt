@@ -1,4 +1,7 @@
 // What there is to know of a primitive: whether a point is inside it, and its box. Exact over the whole range: products and sums are taken in 64 bits.
+
+#![tactic(auto)]
+
 ghost use Rattle.std.specs.Prelude.{◌≤◌, true, ◌≡◌, nat_abs, ◌+ℤ◌, ◌-ℤ◌, ◌*ℤ◌};
 ghost use Rattle.rules.specs.declared.Primitive.TheVariants as primitive;
 ghost use Rattle.rules.specs.Ranges.{within, lesser, greater, around, columns, codes, frames};

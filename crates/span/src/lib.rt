@@ -1,4 +1,7 @@
 // What a primitive holds of a line of points, the codes of a column or the frames of a place: every primitive is convex, so that it is one stretch.
+
+#![tactic(auto)]
+
 ghost use Rattle.std.specs.Prelude.{◌<◌, ◌≤◌, ◌*◌, ◌+◌, ◌-◌, max, min, true, false, ◌&&◌, ◌≡◌, pos, nat_abs, ◌+ℤ◌, ◌-ℤ◌, ◌*ℤ◌};
 ghost use Rattle.std.specs.Int.Signed.{le_z};
 ghost use Rattle.rules.specs.declared.Axis.TheVariants.{Frame};
@@ -22,14 +25,14 @@ const OFFSET: i64 = rules::FRAME_OFFSET as i64;
 pub const LAST: u64 = 2 * rules::FRAME_OFFSET - 1;
 
 // Which way a line runs through a point: along the codes of its column and frame, or along the frames of its column and code.
-#[derive(Drop)]
+#[derive(Clone, Copy)]
 pub enum Line {
     Codes,
     Frames,
 }
 
 // The places lo..=hi of a line; none when lo exceeds hi.
-#[derive(Drop)]
+#[derive(Clone, Copy)]
 pub struct Stretch {
     pub lo: u64,
     pub hi: u64,

@@ -1,4 +1,7 @@
 // A point, and a frame whose columns are filled from sample to sample, asked of the tree of a table or of a list.
+
+#![tactic(auto)]
+
 ghost use Rattle.std.specs.Prelude.{◌+◌, ◌<◌, ◌≤◌, true, ◌≡◌, length};
 ghost use Rattle.std.proofs.Math.Option.{none};
 ghost use Rattle.ground.specs.Lists.{any_of, rest};
@@ -22,7 +25,7 @@ use span::{Line, Stretch};
 const MANY: u64 = 4096;
 
 // Columns from..=until and codes floor..=roof on which the answer is known; and whether the column that was looked at last was hit.
-#[derive(Drop)]
+#[derive(Clone, Copy)]
 pub struct Patch {
     pub from: u64,
     pub until: u64,

@@ -1,4 +1,7 @@
 // Reading the rows of a table, and the check of a table.
+
+#![tactic(auto)]
+
 mod checking;
 mod decode;
 mod fields;
@@ -15,21 +18,21 @@ use rules::{Kind, Primitive};
 pub use size::{primitive_count, root, row_count};
 
 // The kind that a word names.
-#[derive(Drop)]
+#[derive(Clone, Copy)]
 pub enum Named {
     Known(Kind),
     Unknown,
 }
 
 // What a walk over the primitives meets at a row.
-#[derive(Drop)]
+#[derive(Clone, Copy)]
 pub enum Leaf {
     Solid(Primitive),
     None,
 }
 
 // The children that a row names.
-#[derive(Drop)]
+#[derive(Clone, Copy)]
 pub enum Children {
     Two(usize, usize),
     None,

@@ -1,5 +1,8 @@
 // Tells the ways of choosing of a zone: each in order, with what becomes of it in a window, a line each; then the list. To be read beside the rules.
 // Letters name the primitives: A is primitive 0. Those after Z are named by their numbers: P26.
+
+#![tactic(auto)]
+
 ghost use Rattle.std.specs.Prelude.{◌≤◌, ◌<◌, length};
 ghost use Rattle.rules.specs.ListWords.{product_count, place_of};
 ghost use Rattle.laws.specs.Sound.{Sound};

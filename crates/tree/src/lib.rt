@@ -1,4 +1,7 @@
 // The tree's answer at a point, and the search over the tree.
+
+#![tactic(auto)]
+
 ghost use Rattle.std.proofs.Math.Option.{none};
 ghost use Rattle.std.specs.Prelude.{◌≡◌};
 ghost use Rattle.rules.specs.Verdict.{table_refusal};

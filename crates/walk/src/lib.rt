@@ -1,12 +1,15 @@
 // The list of a zone by one walk over the rows of its plan. The walk carries what is chosen so far and what that reaches, and goes into no part
 // where nothing can be listed.
+
+#![tactic(auto)]
+
 mod steps;
 
 use places::Place;
 pub use steps::walk;
 
 // Where a walk stops, and how many places are put aside then.
-#[derive(Drop)]
+#[derive(Clone, Copy)]
 pub struct Stop {
     pub at: Place,
     pub aside: usize,

@@ -1,4 +1,7 @@
 // The waterfall picture of a list: at each place of a rectangle the newest frame of the list's window, by the walk along the frames of the place.
+
+#![tactic(auto)]
+
 ghost use Rattle.std.specs.Prelude.{ℕ, ◌+◌, ◌*◌, ◌≤◌, ◌<◌, true, ◌≡◌, pos, ◌+ℤ◌, ◌-ℤ◌, length};
 ghost use Rattle.std.proofs.lemmas.List.Edits.{sets};
 ghost use Rattle.ground.specs.Lists.{first_of};

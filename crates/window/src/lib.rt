@@ -1,4 +1,7 @@
 // Windows: the full range, the check of a window, and points in one.
+
+#![tactic(auto)]
+
 ghost use Rattle.std.specs.Prelude.{◌≤◌, ◌≡◌};
 ghost use Rattle.ground.specs.Lists.{first_of};
 ghost use Rattle.rules.specs.Ranges.{within, range};

@@ -1,5 +1,8 @@
 // The windows nobody tries: over each zone a window is moved as a thumb would move it, and each time its list is held against the tree, in the window,
 // beside it and far away. The zones, the windows and the coordinates are lines of data/zones (the crate `questions` says how).
+
+#![tactic(auto)]
+
 fn main() {
     io::write_all(
         1,

@@ -1,5 +1,8 @@
 // Writing the text of a table. How many bytes it takes is counted first, so that nothing is written where there is no room. What puts bytes into
 // the text puts them at a position, and answers the position after them.
+
+#![tactic(auto)]
+
 ghost use Rattle.std.specs.Prelude.{◌+◌, ◌≤◌, ◌≡◌, length};
 ghost use Rattle.std.proofs.Math.Option.{none};
 ghost use Rattle.rules.specs.Kinds.{named_words};

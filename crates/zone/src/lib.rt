@@ -1,4 +1,7 @@
 // The public calls. Each takes every input and ends; what it answers, and what it leaves in a lent buffer, is fixed by its record.
+
+#![tactic(auto)]
+
 ghost use Rattle.rules.specs.ListCalls.{ListMade, ListLocated, ListSearched, ScreenSearched, PictureDrawn};
 ghost use Rattle.rules.specs.RewriteCall.{TreeRewritten};
 ghost use Rattle.rules.specs.TextCalls.{TextRead, TextWritten};

@@ -1,4 +1,7 @@
 // The public calls for C. Each makes one call of zone and tells its outcome in three numbers; a lent buffer is left as that call leaves it.
+
+#![tactic(auto)]
+
 ghost use Rattle.rules.specs.Told.{told_checked, told_located, told_searched, told_written};
 ghost use Rattle.rules.specs.TreeCalls.{TableChecked, TreeLocated, TreeSearched};
 ghost use Rattle.rules.specs.ListCalls.{ListMade, ListLocated, ListSearched, ScreenSearched, PictureDrawn};
