@@ -124,9 +124,9 @@ nothing_remembered t = record {
 
 -- ---- calls for an earlier row
 
--- what such a call asks; R is what else it is lent
-pub asks : {limit row a : ℕ} {t : List ℤ} {R Q : Type 0} → (row ≡ limit) × (Sound t × ((row < row_count t) × R)) → a < row → Q → (a < limit) × (Sound t × ((a < row_count t) × Q))
-asks h l q = (omega (arith, h.0), (h.1.0, (omega (arith, h.1.1.0), q)))
+-- what such a call asks; Q is what else it is lent
+pub asks : {limit row a : ℕ} {t : List ℤ} {Q : Type 0} → row ≡ limit → Sound t → row < row_count t → a < row → Q → (a < limit) × (Sound t × ((a < row_count t) × Q))
+asks e s b l q = (omega (arith, e), (s, (omega (arith, b), q)))
 
 -- an answer that was remembered
 pub stored : {t : List ℤ} (S : Sound t) {counts after : List ℕ} → Remembered t counts → {row : ℕ} → row < row_count t → (within : Bool) → {at n r : ℕ}

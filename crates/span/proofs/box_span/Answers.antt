@@ -1,0 +1,7 @@
+use Rattle.span.proofs.box_span.Goals as goal
+
+pub returns-in-Codes : goal.returns-in-Codes
+returns-in-Codes c = rw c.in-Codes.is c.box_codes.ensures
+
+pub returns-in-Frames : goal.returns-in-Frames
+returns-in-Frames c = rw c.in-Frames.is c.box_frames.ensures
