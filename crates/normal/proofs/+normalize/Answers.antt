@@ -76,13 +76,13 @@ module _ (t : ℕ) (e : After-reduce t) {a : List ℤ} {T : Form} {c : List ℤ}
   ready_in : Ready e.loop-going.w e.args.at e.loop-going.n a (onward t e.before.before.before r).tree c
   ready_in = onward_ready r e.loop-going.invariant.0 e.loop-going-test.true (onward t e.before.before.before r)
 
-  stopped : Stopped e.reduce-start.last.0 e.args.at e.reduce-start.result a (onward t e.before.before.before r).tree c
+  stopped : Stopped e.reduce-start.new.w e.args.at e.reduce-start.result a (onward t e.before.before.before r).tree c
   stopped = e.reduce-start.ensures a (onward t e.before.before.before r).tree c ready_in
 
   is_node : 16 ≤ head (onward t e.before.before.before r).tree
   is_node = (onward t e.before.before.before r).node
 
-  left_in : Ready e.reduce-start.last.0 (e.args.at + 1) e.reduce-start.result (left_before stopped is_node) (left_of stopped.tree) (left_after stopped is_node)
+  left_in : Ready e.reduce-start.new.w (e.args.at + 1) e.reduce-start.result (left_before stopped is_node) (left_of stopped.tree) (left_after stopped is_node)
   left_in = left_ready stopped is_node ready_in e.reduce-start.auto.w
 
 -- .. its left part, ..
@@ -105,11 +105,11 @@ module _ (t : ℕ) (g : After-widen t) {a : List ℤ} {T : Form} {c : List ℤ}
 -- .. and the test
 goes : (t : ℕ) (h : After-again t) {a : List ℤ} {T : Form} {c : List ℤ}
     (r : Ready h.args.w.now h.args.at h.args.used a T c)
-    → h.again-going.result ≡ goes_on (settled (stopped t h.before.before.before.before.before.before.before.before.before r).tree)
+    → h.again-going.result ≡ goes_on (settled (stopped t h.before.before.before.before.before.before.before.before r).tree)
 goes t h r =
-    let e = h.before.before.before.before.before.before.before.before.before in
+    let e = h.before.before.before.before.before.before.before.before in
     let s = stopped t e r in
-    h.again-going.ensures (settled s.tree) (held_lies (held_in t h.before.before.before r)) (settled_node s (is_node t e r))
+    h.again-going.ensures (settled s.tree) (held_lies (held_in t h.before.before r)) (settled_node s (is_node t e r))
 
 pub head-requires : goal.head-requires
 head-requires t c = let p = c.requires in (p.1, held_lies p.3.held)
@@ -159,7 +159,7 @@ widen-requires t c =
 
 pub again-going-requires : goal.again-going-requires
 again-going-requires t c =
-    let g = c.before.before in
+    let g = c.before in
     let r = g.requires.3 in
     let s = stopped t g.before.before.before.before.before.before r in
     (settled s.tree, held_lies (held_in t g r), settled_node s (is_node t g.before.before.before.before.before.before r))
@@ -168,10 +168,26 @@ pub loop-going-smaller : goal.loop-going-smaller
 loop-going-smaller t c =
     let S = c.before.before.before.before.before.before.before.before.before.before.before.before.before.before in
     let r = S.requires.3 in
-    let e = c.before.before.before.before.before.before.before.before.before in
+    let e = c.before.before.before.before.before.before.before.before in
     let d = c.before.before.before.before.before.before.before.before.before.before.before in
     subst (λ (b : Bool). to_go c.widen.new.w S.args.at c.again-going.result < to_go d.loop-going.w S.args.at b) (sym c.loop-going-test.true)
-    (onward_falls (stopped t e r) (is_node t e r) (held_lies (onward t d r).held) (held_in t c.before.before.before r) (goes t c r))
+    (onward_falls (stopped t e r) (is_node t e r) (held_lies (onward t d r).held) (held_in t c.before.before r) (goes t c r))
+
+pub loop-going-preserved : goal.loop-going-preserved
+loop-going-preserved t c = (
+  c.widen.auto.w ∙ c.normalize-n.auto.w ∙ c.reduce-start.auto.w ∙ c.loop-going.invariant.0,
+  λ a T e r k.
+      let o = onward t c.before.before.before.before.before.before.before.before.before.before.before r in
+      onward_next (stopped t c.before.before.before.before.before.before.before.before r) (is_node t c.before.before.before.before.before.before.before.before r) (onward_same c.loop-going-test.true o) o.deep (held_in t c.before.before r) (goes t c r),
+)
+
+pub head-requires-2 : goal.head-requires-2
+head-requires-2 t c = let o = onward t c.before c.requires.3 in (o.tree, held_lies o.held)
+
+pub returns-then-head-ne-UNION : goal.returns-then-head-ne-UNION
+returns-then-head-ne-UNION t c = λ a T e r.
+    let o = onward t c.before.before.before r in
+    end_other c.loop-going-test.false o (λ x. c.if-head-ne-UNION.true (c.head-2.ensures o.tree (held_lies o.held) ∙ x))
 
 pub overflow_add-right : goal.overflow_add-right
 overflow_add-right t c =
@@ -179,11 +195,14 @@ overflow_add-right t c =
     let i : S.args.at < length S.args.w.now = lies_in (held_lies S.requires.3.held) in
     search rules
 
+pub left_words-requires : goal.left_words-requires
+left_words-requires t c = let o = onward t c.before.before.before c.requires.3 in (o.tree, held_lies o.held)
+
 -- ---- after it, at a union
 module _ (t : ℕ) (h : After-left_words t) {a : List ℤ} {T : Form} {c : List ℤ}
     (r : Ready h.args.w.now h.args.at h.args.used a T c) where
   last_one : Onward h.loop-going.w h.args.at h.loop-going.n a T c h.loop-going.going
-  last_one = onward t h.before.before.before.before.before.before r
+  last_one = onward t h.before.before.before.before r
 
   is_union : head last_one.tree ≡ 19
   is_union = sym (h.head-2.ensures last_one.tree (held_lies last_one.held)) ∙ h.if-head-ne-UNION.false
@@ -214,7 +233,7 @@ normalize-requires t c =
     let r = c.requires.3 in
     let o = last_one t h r in
     let u = is_union t h r in (
-      subst (λ (j : ℕ). high (tree_at h.loop-going.w j) true < t) (sym (place t h r)) (right_lower (ended t h r) o u (deep t h.before.before.before.before.before.before)),
+      subst (λ (j : ℕ). high (tree_at h.loop-going.w j) true < t) (sym (place t h r)) (right_lower (ended t h r) o u (deep t h.before.before.before.before)),
       (right_before (ended t h r) o u, right_of o.tree, c.requires.2, ready_right t h r),
     )
 

@@ -32,7 +32,7 @@ overflow_mul-size c = record { fits = omega (arith, (rows_read c.before).count.n
 
 pub slice_bounds-give-end : goal.slice_bounds-give-end
 slice_bounds-give-end c =
-    let rows = rows_read c.before.before.before.before in
+    let rows = rows_read c.before.before in
     let size = c.read_form-form.auto.table in
     sym (length-take-le _ _ (omega (arith, rows.count.not_over, size, length-replicate 1524 (pos 0))))
 

@@ -3,8 +3,6 @@ use mathlib.Core.List.{List}
 use mathlib.Core.Path.{◌≡◌}
 use lib.IntN.{ℤ}
 use lib.Seq.{sets}
-use mir.Syntax.{w32}
-use mir.Val.{to_z}
 use Rattle.rules.specs.ListInside.{inside_list}
 use Rattle.rules.specs.ListWords.{list_window}
 use Rattle.rules.specs.Ranges.{columns}
@@ -19,7 +17,7 @@ words table list = words_from (inside_list (primitives table) list) (list_window
 
 abbrev pub invariant-loop-i : goal.invariant-loop-i
 invariant-loop-i l =
-    (l.i ≤ l.width) × ((l.picture ≡ sets l.initial.picture l.at (words l.table l.list (to_z w32 l.xlo) (to_z w32 l.y) l.i)) × Roomy l.marks l.los l.his)
+    (l.i ≤ l.width) × ((l.picture ≡ sets l.initial.picture l.at (words l.table l.list l.xlo l.y l.i)) × Roomy l.marks l.los l.his)
 
 abbrev pub decreases-loop-i : goal.decreases-loop-i
 decreases-loop-i l = l.width - l.i

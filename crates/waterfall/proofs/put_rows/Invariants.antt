@@ -3,8 +3,6 @@ use mathlib.Core.List.{List}
 use mathlib.Core.Path.{◌≡◌}
 use lib.IntN.{ℤ}
 use lib.Seq.{sets}
-use mir.Syntax.{w32}
-use mir.Val.{to_z}
 use Rattle.rules.specs.ListInside.{inside_list}
 use Rattle.rules.specs.ListWords.{list_window}
 use Rattle.rules.specs.Table.{primitives}
@@ -18,7 +16,7 @@ words table list = rows_from (inside_list (primitives table) list) (list_window 
 
 abbrev pub invariant-loop-j : goal.invariant-loop-j
 invariant-loop-j l =
-    (l.j ≤ l.height) × ((l.picture ≡ sets l.initial.picture 0 (words l.table l.list (to_z w32 l.xlo) (to_z w32 l.yhi) l.width l.j)) × Roomy l.marks l.los l.his)
+    (l.j ≤ l.height) × ((l.picture ≡ sets l.initial.picture 0 (words l.table l.list l.xlo l.yhi l.width l.j)) × Roomy l.marks l.los l.his)
 
 abbrev pub decreases-loop-j : goal.decreases-loop-j
 decreases-loop-j l = l.height - l.j
