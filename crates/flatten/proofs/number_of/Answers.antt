@@ -14,10 +14,10 @@ loop-r-init c = (omega arith, refl)
 
 pub count_row-n-requires : goal.count_row-n-requires
 count_row-n-requires c = let S = c.before.before in record {
-      sound = S.requires.sound;
-      row_bound = omega (arith, S.requires.row_bound, c.loop-r-test.true);
-      n_value = c.loop-r.invariant.1;
-    }
+  sound = S.requires.sound;
+  row_bound = omega (arith, S.requires.row_bound, c.loop-r-test.true);
+  n_value = c.loop-r.invariant.1;
+}
 
 pub overflow_add-r : goal.overflow_add-r
 overflow_add-r c = omega arith
