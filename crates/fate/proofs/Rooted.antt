@@ -25,6 +25,6 @@ module _ (t : List ℤ) {root : ℕ} (is : root ≡ row_count t - 1) where
     pub kth_way : kth (plan_at t root true) k ≡ get_or (choices inOf (tree_of t)) k nothing
     unfolding plan_at
     kth_way =
-        let root-way = ap (λ (row : ℕ). kth (plan_at t row true) k) is in
+        let root_way = ap (λ (row : ℕ). kth (plan_at t row true) k) is in
         let fits = subst (λ (row : ℕ). k < count (plan_at t row true)) is way_fits in
-        root-way ∙ sym (ap (λ (cs : List Product). get_or cs k nothing) (choices_ways inOf (tree_of t)) ∙ ways_kth (plan inOf (tree_of t)) k nothing fits)
+        root_way ∙ sym (ap (λ (cs : List Product). get_or cs k nothing) (choices_ways inOf (tree_of t)) ∙ ways_kth (plan inOf (tree_of t)) k nothing fits)

@@ -145,11 +145,11 @@ all_ahead a b c (p, e) (q, f) (r, g) h =
     let (B, B', j) = difference b.up in
     let (C, C', k) = difference c.up in
     let y = A' + B' + C' in
-    let a-is = placed a p A A' (A + B' + C') y e i (omega arith) in
-    let b-is = placed b q B B' (B + A' + C') y f j (omega arith) in
-    let c-is = placed c r C C' (C + A' + B') y g k (omega arith) in
-    (λ d. total (a-is d) (b-is d) (c-is d))
-    ∙ all_0 (suc p) (suc q) (suc r) (A + B' + C') (B + A' + C') (C + A' + B') y (omega arith) (omega arith) (omega arith) (sym (λ d. beside (a-is d) (b-is d) (c-is d)) ∙ h)
+    let a_is = placed a p A A' (A + B' + C') y e i (omega arith) in
+    let b_is = placed b q B B' (B + A' + C') y f j (omega arith) in
+    let c_is = placed c r C C' (C + A' + B') y g k (omega arith) in
+    (λ d. total (a_is d) (b_is d) (c_is d))
+    ∙ all_0 (suc p) (suc q) (suc r) (A + B' + C') (B + A' + C') (C + A' + B') y (omega arith) (omega arith) (omega arith) (sym (λ d. beside (a_is d) (b_is d) (c_is d)) ∙ h)
 
 -- and so, after quarter turns, in each direction
 turns : ℕ → Arrow → Arrow

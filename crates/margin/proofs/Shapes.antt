@@ -80,10 +80,10 @@ module _ (t : TriangleShape) (p : Point) (m : ℕ) (h : holds everywhere p ≡ t
   side_moves {a} {b} u v c =
       let i = value a -ℤ p.x in
       let j = value b -ℤ p.y in
-      let by-column = u.y -ℤ v.y in
+      let by_column = u.y -ℤ v.y in
       let by_code = v.x -ℤ u.x in
-      both_move (nat_abs by-column) (nat_abs by_code) (by-column *ℤ i) (by_code *ℤ j) (side_change u v p.x p.y (value a) (value b))
-      (product_most by-column i (le_refl (nat_abs by-column)) (across p h c)) (product_most by_code j (le_refl (nat_abs by_code)) (along p h c))
+      both_move (nat_abs by_column) (nat_abs by_code) (by_column *ℤ i) (by_code *ℤ j) (side_change u v p.x p.y (value a) (value b))
+      (product_most by_column i (le_refl (nat_abs by_column)) (across p h c)) (product_most by_code j (le_refl (nat_abs by_code)) (along p h c))
 
   abbrev EdgeSlack : Corner → Corner → Type 0
   EdgeSlack u v = Slack (side u v p.x p.y) (edge_weight u v) m

@@ -96,7 +96,7 @@ scan_digits (b ∷ ds) rest v at d h l =
 pub scan_decimal : (n at : ℕ) (rest bytes : List ℕ) → n < 10 ^ 10 → Ended rest → bytes ≡ decimal n ++ rest
     → scanned 0 at bytes ≡ run n (at + length (decimal n))
 scan_decimal n at rest bytes l h e =
-    let worth-n = worth_decimal 10 n l in
+    let worth_n = worth_decimal 10 n l in
     ap (scanned 0 at) e
-    ∙ scan_digits (decimal n) rest 0 at (digits 10 n) h (subst (λ (w : ℕ). w < 10 ^ 10) (sym worth-n) l)
-    ∙ ap (λ (w : ℕ). run w (at + length (decimal n))) worth-n
+    ∙ scan_digits (decimal n) rest 0 at (digits 10 n) h (subst (λ (w : ℕ). w < 10 ^ 10) (sym worth_n) l)
+    ∙ ap (λ (w : ℕ). run w (at + length (decimal n))) worth_n

@@ -243,8 +243,8 @@ module _ (text : List ℕ) (at : ℕ) where
             let t = told x rest p e in
             let three = last.complete tt rest tt tt t.told_rest in
             let size = length-append (begins x.0) (goes_on x.1 ++ (line_feed ∷ [])) in
-            let last-size = length-append (goes_on x.1) (line_feed ∷ []) in
-            (three.0, (λ i. (t.told_first i, t.told_second i)), omega (arith, three.2, t.told_end, size, last-size));
+            let last_size = length-append (goes_on x.1) (line_feed ∷ []) in
+            (three.0, (λ i. (t.told_first i, t.told_second i)), omega (arith, three.2, t.told_end, size, last_size));
       }
 
   -- ---- the line of a row

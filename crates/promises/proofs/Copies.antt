@@ -55,8 +55,8 @@ module _ {t : List ℤ} {w : Window} {before after : List ℕ} {n : ℕ} (made :
   pub made_fits : needed t w ≤ length before
   made_fits =
       let m = length (zone_list t w) in
-      let after-window = (first_kept (window_refusal w) _ (first_kept (table_refusal t) _ not_refused).1).1 in
-      let room = (first_kept (room_refusal m (length before)) [] (first_kept (choices_refusal (expansion (tree_of t))) _ after-window).1).0 in
+      let after_window = (first_kept (window_refusal w) _ (first_kept (table_refusal t) _ not_refused).1).1 in
+      let room = (first_kept (room_refusal m (length before)) [] (first_kept (choices_refusal (expansion (tree_of t))) _ after_window).1).0 in
       omega (arith, list_needs t w, leb-true m (length before) (unless_kept (leb m (length before)) 8 m room))
 
   -- it wrote all words of the list

@@ -46,10 +46,10 @@ module _ (samples : List ℤ) (place : Place) where
 
   frame_small : Gives SmallRefusal (frame_refusal samples place)
   frame_small =
-      let length-rule = if_gives SmallRefusal wrong_length 12 0 (few 12 0 (omega arith) (omega arith)) in
-      let column-rule = unless_gives SmallRefusal columns_in 12 1 (few 12 1 (omega arith) (omega arith)) in
-      let number-rule = unless_gives SmallRefusal (within frames place.frame) 12 2 (few 12 2 (omega arith) (omega arith)) in
-      first_gives SmallRefusal _ (length-rule, (column-rule, (number-rule, tt)))
+      let length_rule = if_gives SmallRefusal wrong_length 12 0 (few 12 0 (omega arith) (omega arith)) in
+      let column_rule = unless_gives SmallRefusal columns_in 12 1 (few 12 1 (omega arith) (omega arith)) in
+      let number_rule = unless_gives SmallRefusal (within frames place.frame) 12 2 (few 12 2 (omega arith) (omega arith)) in
+      first_gives SmallRefusal _ (length_rule, (column_rule, (number_rule, tt)))
 
   module _ (short : length samples ≤ most_samples) where
     leaves_small : (window : Box) → Gives SmallRefusal (leaves_refusal window samples place)

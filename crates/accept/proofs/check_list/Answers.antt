@@ -20,7 +20,7 @@ After-enum_told = lts.Past-After-enum_told tie.the-claims reads.Pre reads.Post t
 
 -- the list that was lent, once its header was let through
 abbrev lent : After-enum_told → List ℕ
-lent c = let at-check-header = c.before in at-check-header.args.list.now
+lent c = let at_check_header = c.before in at_check_header.args.list.now
 
 passed : (c : After-enum_told) → first_of (header_refusals (lent c)) ≡ none
 passed c = went_on (first_of (header_refusals (lent c))) (sym c.in-Sound.is ∙ c.check_header-header.ensures)

@@ -1,6 +1,5 @@
 use native.Mathlib.Omega.{arith}
 use mathlib.Core.Path.{refl, sym, ap, ◌∙◌}
-use borrow.Author.Tests.{not-true, not-false}
 use lib.ListN.{length}
 use Rattle.ground.proofs.Counting.{kept, broken, all_kept}
 use Rattle.rules.specs.Boxes.{holds, window_box}
@@ -22,7 +21,7 @@ returns-then-not-in_window c =
     let l = p.before.before in
     let s = l.before in
     let r = rule s.args.w s.args.samples.now s.args.place in
-    let out = sym (q.in_window.ensures ∙ ap (holds (window_box s.args.w)) p.point_at.ensures.value) ∙ not-true q.in_window.result c.if-not-in_window.true-raw in
+    let out = sym (q.in_window.ensures ∙ ap (holds (window_box s.args.w)) p.point_at.ensures.value) ∙ c.if-not-in_window.true in
     c.refused.ensures
     ∙ sym (ap checked_by (l.loop-k.invariant.1 ∙ broken r l.loop-k.k (length s.args.samples.now) p.loop-k-test.true (ap (λ b. refuse_unless b 10 l.loop-k.k) out)))
 
@@ -39,8 +38,8 @@ loop-k-preserved c =
     let l = p.before.before in
     let s = l.before in
     let r = rule s.args.w s.args.samples.now s.args.place in
-    let within-it = sym (q.in_window.ensures ∙ ap (holds (window_box s.args.w)) p.point_at.ensures.value) ∙ not-false q.in_window.result c.if-not-in_window.false-raw in
-    (omega arith, l.loop-k.invariant.1 ∙ kept r l.loop-k.k (length s.args.samples.now) p.loop-k-test.true (ap (λ b. refuse_unless b 10 l.loop-k.k) within-it))
+    let within_it = sym (q.in_window.ensures ∙ ap (holds (window_box s.args.w)) p.point_at.ensures.value) ∙ c.if-not-in_window.false in
+    (omega arith, l.loop-k.invariant.1 ∙ kept r l.loop-k.k (length s.args.samples.now) p.loop-k-test.true (ap (λ b. refuse_unless b 10 l.loop-k.k) within_it))
 
 pub returns : goal.returns
 returns c =

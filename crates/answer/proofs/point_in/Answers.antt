@@ -27,8 +27,8 @@ placed c =
 
 in_window : (c : After-enum_told) → let s = c.before.before.before.before in point_refusal (list_window s.args.list.now) s.args.p ≡ none
 in_window c =
-    let at-window-of = c.before.before in
-    let s = at-window-of.before.before in
+    let at_window_of = c.before.before in
+    let s = at_window_of.before.before in
     went_on (point_refusal (list_window s.args.list.now) s.args.p) (sym c.in-Sound.is ∙ placed c.before)
 
 pub window_of-requires : goal.window_of-requires
@@ -36,8 +36,8 @@ window_of-requires c = list_sound c.args.list.now c.requires.list_right
 
 pub inside_at-requires : goal.inside_at-requires
 inside_at-requires c =
-    let at-window-of = c.before.before.before in
-    let s = at-window-of.before.before in
+    let at_window_of = c.before.before.before in
+    let s = at_window_of.before.before in
     let list = s.args.list.now in record {
       ready = s.requires;
       p_value = list_window_in_range list (list_sound list s.requires.list_right).header s.args.p (point_holds (list_window list) s.args.p (in_window c.before));
@@ -53,13 +53,13 @@ returns-in-Refused c =
 pub returns-then-inside_at : goal.returns-then-inside_at
 returns-then-inside_at c =
     let d = c.before.before.before in
-    let at-window-of = d.before.before in
-    let s = at-window-of.before.before in
+    let at_window_of = d.before.before in
+    let s = at_window_of.before.before in
     point_inside s.args.table.now s.args.list.now s.args.p s.requires (in_window d) (sym c.inside_at.ensures ∙ c.if-inside_at.true)
 
 pub returns-else-inside_at : goal.returns-else-inside_at
 returns-else-inside_at c =
     let d = c.before.before.before in
-    let at-window-of = d.before.before in
-    let s = at-window-of.before.before in
+    let at_window_of = d.before.before in
+    let s = at_window_of.before.before in
     point_outside s.args.table.now s.args.list.now s.args.p s.requires (in_window d) (sym c.inside_at.ensures ∙ c.if-inside_at.false)

@@ -28,7 +28,7 @@ check_leaves-placed-requires c = c.requires.place_value
 
 pub scan-requires : goal.scan-requires
 scan-requires c =
-    let at-window-of = c.before.before.before in record { ready = at-window-of.requires.accepted; place_value = at-window-of.requires.place_value }
+    let at_window_of = c.before.before.before in record { ready = at_window_of.requires.accepted; place_value = at_window_of.requires.place_value }
 
 pub returns-in-Refused : goal.returns-in-Refused
 returns-in-Refused c =

@@ -18,74 +18,74 @@ returns-then-known-ne0 t c =
 
 pub remember-requires : goal.remember-requires
 remember-requires t c =
-    let at-read-step = c.before.before in
-    at-read-step.slot-at.ensures.1
+    let at_read_step = c.before.before in
+    at_read_step.slot-at.ensures.1
 
 pub remember-requires-in-Without : goal.remember-requires-in-Without
 remember-requires-in-Without t c =
-    let at-read-step = c.before.before in
-    at-read-step.slot-at.ensures.1
+    let at_read_step = c.before.before in
+    at_read_step.slot-at.ensures.1
 
 pub overflow_add-x : goal.overflow_add-x
 overflow_add-x t c =
-    let at-count-ways = c.before.before.before in
-    let at-step = at-count-ways.before.before in
-    let at-read-step = at-step.before in
-    let s = at-read-step.before.before.before.before.before in
-    count_fits_word s.requires.sound s.requires.row_bound s.args.within (count_either (as_step _ _ _ at-read-step.read_step-step.ensures at-step.in-Either.is).0 at-count-ways.count_ways-x.ensures.0 c.count_ways-y.ensures.0)
+    let at_count_ways = c.before.before.before in
+    let at_step = at_count_ways.before.before in
+    let at_read_step = at_step.before in
+    let s = at_read_step.before.before.before.before.before in
+    count_fits_word s.requires.sound s.requires.row_bound s.args.within (count_either (as_step _ _ _ at_read_step.read_step-step.ensures at_step.in-Either.is).0 at_count_ways.count_ways-x.ensures.0 c.count_ways-y.ensures.0)
 
 pub remember-requires-in-Either : goal.remember-requires-in-Either
 remember-requires-in-Either t c =
-    let at-count-ways = c.before.before.before in
-    let at-match3 = at-count-ways.before.before in
-    let at_slot = at-match3.before.before.before.before.before in
+    let at_count_ways = c.before.before.before in
+    let at_match3 = at_count_ways.before.before in
+    let at_slot = at_match3.before.before.before.before.before in
     at_slot.slot-at.ensures.1
 
 pub overflow_mul-x : goal.overflow_mul-x
 overflow_mul-x t c =
-    let at-count-ways3 = c.before.before.before in
-    let at-step2 = at-count-ways3.before.before in
-    let at-read-step = at-step2.before in
-    let s = at-read-step.before.before.before.before.before in
-    count_fits_word s.requires.sound s.requires.row_bound s.args.within (count_both (as_step _ _ _ at-read-step.read_step-step.ensures at-step2.in-Both.is).0 at-count-ways3.count_ways-x-in-Both.ensures.0 c.count_ways-y-in-Both.ensures.0)
+    let at_count_ways3 = c.before.before.before in
+    let at_step2 = at_count_ways3.before.before in
+    let at_read_step = at_step2.before in
+    let s = at_read_step.before.before.before.before.before in
+    count_fits_word s.requires.sound s.requires.row_bound s.args.within (count_both (as_step _ _ _ at_read_step.read_step-step.ensures at_step2.in-Both.is).0 at_count_ways3.count_ways-x-in-Both.ensures.0 c.count_ways-y-in-Both.ensures.0)
 
 pub remember-requires-in-Both : goal.remember-requires-in-Both
 remember-requires-in-Both t c =
-    let at-count-ways3 = c.before.before.before in
-    let at-match4 = at-count-ways3.before.before in
-    let at_slot = at-match4.before.before.before.before.before in
+    let at_count_ways3 = c.before.before.before in
+    let at_match4 = at_count_ways3.before.before in
+    let at_slot = at_match4.before.before.before.before.before in
     at_slot.slot-at.ensures.1
 
 pub returns-in-With : goal.returns-in-With
 unfolding count
 returns-in-With t c =
-    let at-read-step = c.before.before.before in
-    let at_slot = at-read-step.before.before.before.before in
+    let at_read_step = c.before.before.before in
+    let at_slot = at_read_step.before.before.before.before in
     let s = at_slot.before in
-    stored s.requires.sound s.requires.remembered s.requires.row_bound s.args.within at_slot.slot-at.ensures.0 (sym (ap count (as_step _ _ _ at-read-step.read_step-step.ensures c.in-With.is).1)) c.remember.ensures
+    stored s.requires.sound s.requires.remembered s.requires.row_bound s.args.within at_slot.slot-at.ensures.0 (sym (ap count (as_step _ _ _ at_read_step.read_step-step.ensures c.in-With.is).1)) c.remember.ensures
 
 pub returns-in-Without : goal.returns-in-Without
 unfolding count
 returns-in-Without t c =
-    let at-read-step = c.before.before.before in
-    let at_slot = at-read-step.before.before.before.before in
+    let at_read_step = c.before.before.before in
+    let at_slot = at_read_step.before.before.before.before in
     let s = at_slot.before in
-    stored s.requires.sound s.requires.remembered s.requires.row_bound s.args.within at_slot.slot-at.ensures.0 (sym (ap count (as_step _ _ _ at-read-step.read_step-step.ensures c.in-Without.is).1)) c.remember-in-Without.ensures
+    stored s.requires.sound s.requires.remembered s.requires.row_bound s.args.within at_slot.slot-at.ensures.0 (sym (ap count (as_step _ _ _ at_read_step.read_step-step.ensures c.in-Without.is).1)) c.remember-in-Without.ensures
 
 pub returns-in-Either : goal.returns-in-Either
 returns-in-Either t c =
-    let at-count-ways = c.before.before.before.before in
-    let at-step = at-count-ways.before.before in
-    let at-read-step = at-step.before in
-    let at_slot = at-read-step.before.before.before.before in
+    let at_count_ways = c.before.before.before.before in
+    let at_step = at_count_ways.before.before in
+    let at_read_step = at_step.before in
+    let at_slot = at_read_step.before.before.before.before in
     let s = at_slot.before in
-    stored s.requires.sound c.count_ways-y.ensures.1 s.requires.row_bound s.args.within at_slot.slot-at.ensures.0 (count_either (as_step _ _ _ at-read-step.read_step-step.ensures at-step.in-Either.is).0 at-count-ways.count_ways-x.ensures.0 c.count_ways-y.ensures.0) c.remember-in-Either.ensures
+    stored s.requires.sound c.count_ways-y.ensures.1 s.requires.row_bound s.args.within at_slot.slot-at.ensures.0 (count_either (as_step _ _ _ at_read_step.read_step-step.ensures at_step.in-Either.is).0 at_count_ways.count_ways-x.ensures.0 c.count_ways-y.ensures.0) c.remember-in-Either.ensures
 
 pub returns-in-Both : goal.returns-in-Both
 returns-in-Both t c =
-    let at-count-ways3 = c.before.before.before.before in
-    let at-step2 = at-count-ways3.before.before in
-    let at-read-step = at-step2.before in
-    let at_slot = at-read-step.before.before.before.before in
+    let at_count_ways3 = c.before.before.before.before in
+    let at_step2 = at_count_ways3.before.before in
+    let at_read_step = at_step2.before in
+    let at_slot = at_read_step.before.before.before.before in
     let s = at_slot.before in
-    stored s.requires.sound c.count_ways-y-in-Both.ensures.1 s.requires.row_bound s.args.within at_slot.slot-at.ensures.0 (count_both (as_step _ _ _ at-read-step.read_step-step.ensures at-step2.in-Both.is).0 at-count-ways3.count_ways-x-in-Both.ensures.0 c.count_ways-y-in-Both.ensures.0) c.remember-in-Both.ensures
+    stored s.requires.sound c.count_ways-y-in-Both.ensures.1 s.requires.row_bound s.args.within at_slot.slot-at.ensures.0 (count_both (as_step _ _ _ at_read_step.read_step-step.ensures at_step2.in-Both.is).0 at_count_ways3.count_ways-x-in-Both.ensures.0 c.count_ways-y-in-Both.ensures.0) c.remember-in-Both.ensures

@@ -32,9 +32,9 @@ loop-row-smaller c = omega arith
 
 pub loop-row-preserved : goal.loop-row-preserved
 loop-row-preserved c =
-    let in-loop = c.before.before.before.before in
-    let at-loop = in-loop.before in
-    filling_more at-loop.requires.0 at-loop.loop-row.invariant in-loop.loop-row-test.true c.fill_row.ensures.masks_after c.fill_row.ensures.holes_after
+    let in_loop = c.before.before.before.before in
+    let at_loop = in_loop.before in
+    filling_more at_loop.requires.0 at_loop.loop-row.invariant in_loop.loop-row-test.true c.fill_row.ensures.masks_after c.fill_row.ensures.holes_after
 
 pub returns : goal.returns
 returns c =

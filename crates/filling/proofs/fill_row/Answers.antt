@@ -37,9 +37,9 @@ returns-then-kind-eq2 c =
     let at_one = c.before.before.before.before in
     let at_left = at_one.before.before in
     let else1 = at_left.before in
-    let at-kind = else1.before in
-    let s = at-kind.before in
-    let f = either_filled s.args.links.now s.args.holes.now s.args.masks.now s.args.row at-kind.kind-kind.ensures at_left.left-left.ensures else1.if-kind-lt2.false c.if-kind-eq2.true in record { masks_after = c.fill_either.ensures ∙ f.0; holes_after = f.1 }
+    let at_kind = else1.before in
+    let s = at_kind.before in
+    let f = either_filled s.args.links.now s.args.holes.now s.args.masks.now s.args.row at_kind.kind-kind.ensures at_left.left-left.ensures else1.if-kind-lt2.false c.if-kind-eq2.true in record { masks_after = c.fill_either.ensures ∙ f.0; holes_after = f.1 }
 
 pub fill_both-requires : goal.fill_both-requires
 fill_both-requires c =
@@ -51,6 +51,6 @@ returns c =
     let at_one = c.before.before.before.before in
     let at_left = at_one.before.before in
     let else1 = at_left.before in
-    let at-kind = else1.before in
-    let s = at-kind.before in
-    let f = both_filled s.args.links.now s.args.holes.now s.args.masks.now s.args.row at-kind.kind-kind.ensures at_left.left-left.ensures else1.if-kind-lt2.false c.if-kind-eq2.false in record { masks_after = c.fill_both.ensures ∙ f.0; holes_after = f.1 }
+    let at_kind = else1.before in
+    let s = at_kind.before in
+    let f = both_filled s.args.links.now s.args.holes.now s.args.masks.now s.args.row at_kind.kind-kind.ensures at_left.left-left.ensures else1.if-kind-lt2.false c.if-kind-eq2.false in record { masks_after = c.fill_both.ensures ∙ f.0; holes_after = f.1 }

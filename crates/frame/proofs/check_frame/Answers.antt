@@ -1,6 +1,5 @@
 use mathlib.Core.Path.{◌≡◌, sym, ap, ◌∙◌}
 use borrow.Author.Rules.{rules}
-use borrow.Author.Tests.{not-true, not-false}
 use lib.IntN.{ℤ}
 use lib.ListN.{length}
 use mir.Syntax.{w32}
@@ -29,12 +28,12 @@ columns_told c =
     c.columns_right.ensures ∙ ap (λ (z : ℤ). columns_right z (length s.args.samples.now)) (to_z-of_z w32 s.args.place.first f)
 
 frame_told : (c : After-in_range) →
-    let at-columns-right = c.before.before.before in
-    let s = at-columns-right.before.before.before in
+    let at_columns_right = c.before.before.before in
+    let s = at_columns_right.before.before.before in
     c.in_range.result ≡ within frames s.args.place.frame
 frame_told c =
-    let at-columns-right = c.before.before.before in
-    let s = at-columns-right.before.before.before in
+    let at_columns_right = c.before.before.before in
+    let s = at_columns_right.before.before.before in
     let f : SFits w32 s.args.place.frame = search rules in
     c.in_range.ensures ∙ ap (within frames) (to_z-of_z w32 s.args.place.frame f)
 
@@ -48,7 +47,7 @@ pub returns-then-not-columns_right : goal.returns-then-not-columns_right
 returns-then-not-columns_right c =
     let d = c.before.before in
     let s = d.before.before.before in
-    c.refused-then-not-columns_right.ensures ∙ ap checked_by (sym (columns_wrong s.args.samples.now s.args.place d.if-n.false (sym (columns_told d) ∙ not-true _ c.if-not-columns_right.true-raw)))
+    c.refused-then-not-columns_right.ensures ∙ ap checked_by (sym (columns_wrong s.args.samples.now s.args.place d.if-n.false (sym (columns_told d) ∙ c.if-not-columns_right.true)))
 
 pub returns-then-not-in_range : goal.returns-then-not-in_range
 returns-then-not-in_range c =
@@ -56,11 +55,11 @@ returns-then-not-in_range c =
     let d = e.before.before.before in
     let s = d.before.before.before in
     c.refused-then-not-in_range.ensures
-    ∙ ap checked_by (sym (frame_wrong s.args.samples.now s.args.place d.if-n.false (sym (columns_told d) ∙ not-false _ e.if-not-columns_right.false-raw) (sym (frame_told e) ∙ not-true _ c.if-not-in_range.true-raw)))
+    ∙ ap checked_by (sym (frame_wrong s.args.samples.now s.args.place d.if-n.false (sym (columns_told d) ∙ e.if-not-columns_right.false) (sym (frame_told e) ∙ c.if-not-in_range.true)))
 
 pub returns : goal.returns
 returns c =
     let e = c.before in
     let d = e.before.before.before in
     let s = d.before.before.before in
-    ap checked_by (sym (frame_fine s.args.samples.now s.args.place d.if-n.false (sym (columns_told d) ∙ not-false _ e.if-not-columns_right.false-raw) (sym (frame_told e) ∙ not-false _ c.if-not-in_range.false-raw)))
+    ap checked_by (sym (frame_fine s.args.samples.now s.args.place d.if-n.false (sym (columns_told d) ∙ e.if-not-columns_right.false) (sym (frame_told e) ∙ c.if-not-in_range.false)))

@@ -43,17 +43,17 @@ lay_rows-requires c =
 
 pub fill-requires : goal.fill-requires
 fill-requires c =
-    let at-lay-rows = c.before in
-    let w = at-lay-rows.before.before.before.before in
-    let at-root = w.before.before.before.before in
-    let s = at-root.before.before.before in
-    let laying = at-lay-rows.lay_rows.ensures in
+    let at_lay_rows = c.before in
+    let w = at_lay_rows.before.before.before.before in
+    let at_root = w.before.before.before.before in
+    let s = at_root.before.before.before in
+    let laying = at_lay_rows.lay_rows.ensures in
     (links_sound s.args.table.now s.requires.given.sound (all_rows_laid w) laying, laying.long_masks)
 
 pub returns : goal.returns
 returns c =
-    let at-lay-rows = c.before.before in
-    let w = at-lay-rows.before.before.before.before in
-    let at-root = w.before.before.before.before in
-    let s = at-root.before.before.before in
-    laid s.args.table.now s.requires.given.sound (all_rows_laid w) at-lay-rows.lay_rows.ensures c.fill.ensures
+    let at_lay_rows = c.before.before in
+    let w = at_lay_rows.before.before.before.before in
+    let at_root = w.before.before.before.before in
+    let s = at_root.before.before.before in
+    laid s.args.table.now s.requires.given.sound (all_rows_laid w) at_lay_rows.lay_rows.ensures c.fill.ensures

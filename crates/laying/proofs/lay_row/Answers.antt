@@ -65,35 +65,35 @@ sharing_row-requires c =
 
 pub put_leaf-requires : goal.put_leaf-requires
 put_leaf-requires c =
-    let at-sharing-row = c.before.before in
-    let at-read-step = at-sharing-row.before.before in
-    at_row (start at-read-step)
+    let at_sharing_row = c.before.before in
+    let at_read_step = at_sharing_row.before.before in
+    at_row (start at_read_step)
 
 pub put_leaf-requires-in-Without : goal.put_leaf-requires-in-Without
 put_leaf-requires-in-Without c =
-    let at-match2 = c.before.before in
-    let at-read-step = at-match2.before in
-    at_row (start at-read-step)
+    let at_match2 = c.before.before in
+    let at_read_step = at_match2.before in
+    at_row (start at_read_step)
 
 pub overflow_mul-next : goal.overflow_mul-next
 overflow_mul-next c =
-    let at-read-step = c.before in
-    omega (arith, at_row (start at-read-step))
+    let at_read_step = c.before in
+    omega (arith, at_row (start at_read_step))
 
 pub overflow_add-next : goal.overflow_add-next
 overflow_add-next c =
-    let at-read-step = c.before in
-    omega (arith, at_row (start at-read-step))
+    let at_read_step = c.before in
+    omega (arith, at_row (start at_read_step))
 
 pub bounds-links-at : goal.bounds-links-at
 bounds-links-at c =
-    let at-read-step = c.before.before.before in
-    omega (arith, at_row (start at-read-step))
+    let at_read_step = c.before.before.before in
+    omega (arith, at_row (start at_read_step))
 
 pub overflow_add-left : goal.overflow_add-left
 overflow_add-left c =
-    let at-read-step = c.before.before.before.before in
-    record { fits = omega (arith, at_row (start at-read-step)) }
+    let at_read_step = c.before.before.before.before in
+    record { fits = omega (arith, at_row (start at_read_step)) }
 
 pub bounds-sizes-rhs : goal.bounds-sizes-rhs
 bounds-sizes-rhs c =
@@ -104,33 +104,33 @@ bounds-sizes-rhs c =
 
 pub overflow_add-left-in-Either : goal.overflow_add-left-in-Either
 overflow_add-left-in-Either c =
-    let at-step3 = c.before.before.before.before.before.before in
-    let m = at-step3.before in
+    let at_step3 = c.before.before.before.before.before.before in
+    let m = at_step3.before in
     let at_left = m.before in
-    let at-kind = at_left.before in
-    let s = at-kind.before in
-    let N = stepped m at-step3.in-Either.is in
-    let w = pair_fits s.requires.given.0 s.requires.laying.0 s.requires.laying.1 at-kind.kind-within.ensures at_left.left-row.ensures s.requires.given.1 _ _ N.1 N.2 c.wide.ensures true N.0 in
+    let at_kind = at_left.before in
+    let s = at_kind.before in
+    let N = stepped m at_step3.in-Either.is in
+    let w = pair_fits s.requires.given.0 s.requires.laying.0 s.requires.laying.1 at_kind.kind-within.ensures at_left.left-row.ensures s.requires.given.1 _ _ N.1 N.2 c.wide.ensures true N.0 in
     record { fits = omega (arith, w.1) }
 
 pub put_pair-requires : goal.put_pair-requires
 put_pair-requires c =
     let at_wide = c.before.before in
-    let at-step3 = at_wide.before.before.before.before.before in
-    let m = at-step3.before in
+    let at_step3 = at_wide.before.before.before.before.before in
+    let m = at_step3.before in
     let at_left = m.before in
-    let at-kind = at_left.before in
-    let s = at-kind.before in
-    let N = stepped m at-step3.in-Either.is in
-    let w = pair_fits s.requires.given.0 s.requires.laying.0 s.requires.laying.1 at-kind.kind-within.ensures at_left.left-row.ensures s.requires.given.1 _ _ N.1 N.2 at_wide.wide.ensures true N.0 in record {
+    let at_kind = at_left.before in
+    let s = at_kind.before in
+    let N = stepped m at_step3.in-Either.is in
+    let w = pair_fits s.requires.given.0 s.requires.laying.0 s.requires.laying.1 at_kind.kind-within.ensures at_left.left-row.ensures s.requires.given.1 _ _ N.1 N.2 at_wide.wide.ensures true N.0 in record {
       at_bound = w;
       lhs_bound = (omega (arith, N.1, N.2, table_few s, read_in m), omega (arith, N.1, N.2, table_few s, read_in m));
     }
 
 pub overflow_add-left-in-Both : goal.overflow_add-left-in-Both
 overflow_add-left-in-Both c =
-    let at-read-step = c.before in
-    record { fits = omega (arith, at_row (start at-read-step)) }
+    let at_read_step = c.before in
+    record { fits = omega (arith, at_row (start at_read_step)) }
 
 pub bounds-sizes-rhs-in-Both : goal.bounds-sizes-rhs-in-Both
 bounds-sizes-rhs-in-Both c =
@@ -141,93 +141,93 @@ bounds-sizes-rhs-in-Both c =
 
 pub overflow_add-left-in-Both-2 : goal.overflow_add-left-in-Both-2
 overflow_add-left-in-Both-2 c =
-    let at-step4 = c.before.before.before.before in
-    let m = at-step4.before in
+    let at_step4 = c.before.before.before.before in
+    let m = at_step4.before in
     let at_left = m.before in
-    let at-kind = at_left.before in
-    let s = at-kind.before in
-    let N = stepped m at-step4.in-Both.is in
-    let w = pair_fits s.requires.given.0 s.requires.laying.0 s.requires.laying.1 at-kind.kind-within.ensures at_left.left-row.ensures s.requires.given.1 _ _ N.1 N.2 c.wide-in-Both.ensures false N.0 in
+    let at_kind = at_left.before in
+    let s = at_kind.before in
+    let N = stepped m at_step4.in-Both.is in
+    let w = pair_fits s.requires.given.0 s.requires.laying.0 s.requires.laying.1 at_kind.kind-within.ensures at_left.left-row.ensures s.requires.given.1 _ _ N.1 N.2 c.wide-in-Both.ensures false N.0 in
     record { fits = omega (arith, w.1) }
 
 pub narrow-requires : goal.narrow-requires
 narrow-requires c =
-    let at-step4 = c.before.before.before.before.before in
-    let m = at-step4.before in
+    let at_step4 = c.before.before.before.before.before in
+    let m = at_step4.before in
     let at_left = m.before in
-    let at-kind = at_left.before in
-    let s = at-kind.before in
-    let N = stepped m at-step4.in-Both.is in
-    let w = pair_fits s.requires.given.0 s.requires.laying.0 s.requires.laying.1 at-kind.kind-within.ensures at_left.left-row.ensures s.requires.given.1 _ _ N.1 N.2 c.wide-in-Both.ensures false N.0 in
+    let at_kind = at_left.before in
+    let s = at_kind.before in
+    let N = stepped m at_step4.in-Both.is in
+    let w = pair_fits s.requires.given.0 s.requires.laying.0 s.requires.laying.1 at_kind.kind-within.ensures at_left.left-row.ensures s.requires.given.1 _ _ N.1 N.2 c.wide-in-Both.ensures false N.0 in
     omega (arith, w.1)
 
 pub overflow_add-at : goal.overflow_add-at
 overflow_add-at c =
-    let at-wide2 = c.before.before.before in
-    let at-match4 = at-wide2.before.before.before in
-    let at-read-step = at-match4.before in
-    record { fits = omega (arith, at_row (start at-read-step)) }
+    let at_wide2 = c.before.before.before in
+    let at_match4 = at_wide2.before.before.before in
+    let at_read_step = at_match4.before in
+    record { fits = omega (arith, at_row (start at_read_step)) }
 
 pub narrow-requires-in-Both : goal.narrow-requires-in-Both
 narrow-requires-in-Both c =
-    let at-wide2 = c.before.before.before in
-    let at-match4 = at-wide2.before.before.before in
-    let at-read-step = at-match4.before in
-    omega (arith, at_row (start at-read-step))
+    let at_wide2 = c.before.before.before in
+    let at_match4 = at_wide2.before.before.before in
+    let at_read_step = at_match4.before in
+    omega (arith, at_row (start at_read_step))
 
 pub put_pair-requires-in-Both : goal.put_pair-requires-in-Both
 put_pair-requires-in-Both c =
-    let at-wide2 = c.before.before.before.before in
-    let at-step4 = at-wide2.before.before.before in
-    let m = at-step4.before in
+    let at_wide2 = c.before.before.before.before in
+    let at_step4 = at_wide2.before.before.before in
+    let m = at_step4.before in
     let at_left = m.before in
-    let at-kind = at_left.before in
-    let s = at-kind.before in
-    let N = stepped m at-step4.in-Both.is in
-    let w = pair_fits s.requires.given.0 s.requires.laying.0 s.requires.laying.1 at-kind.kind-within.ensures at_left.left-row.ensures s.requires.given.1 _ _ N.1 N.2 at-wide2.wide-in-Both.ensures false N.0 in record {
+    let at_kind = at_left.before in
+    let s = at_kind.before in
+    let N = stepped m at_step4.in-Both.is in
+    let w = pair_fits s.requires.given.0 s.requires.laying.0 s.requires.laying.1 at_kind.kind-within.ensures at_left.left-row.ensures s.requires.given.1 _ _ N.1 N.2 at_wide2.wide-in-Both.ensures false N.0 in record {
       at_bound = w;
       lhs_bound = (omega (arith, N.1, N.2, table_few s, read_in m), omega (arith, N.1, N.2, table_few s, read_in m));
     }
 
 pub returns-in-With : goal.returns-in-With
 returns-in-With c =
-    let at-sharing-row = c.before.before.before in
-    let at-step = at-sharing-row.before in
-    let m = at-step.before in
+    let at_sharing_row = c.before.before.before in
+    let at_step = at_sharing_row.before in
+    let m = at_step.before in
     let at_left = m.before in
-    let at-kind = at_left.before in
-    let s = at-kind.before in
-    let N = stepped m at-step.in-With.is in
-    laid_with s.requires.given.0 s.requires.laying.0 s.requires.laying.1 at-kind.kind-within.ensures at_left.left-row.ensures N.2 N.1 at-sharing-row.sharing_row.ensures c.put_leaf.ensures.by_index c.put_leaf.ensures.masks_after
+    let at_kind = at_left.before in
+    let s = at_kind.before in
+    let N = stepped m at_step.in-With.is in
+    laid_with s.requires.given.0 s.requires.laying.0 s.requires.laying.1 at_kind.kind-within.ensures at_left.left-row.ensures N.2 N.1 at_sharing_row.sharing_row.ensures c.put_leaf.ensures.by_index c.put_leaf.ensures.masks_after
 
 pub returns-in-Without : goal.returns-in-Without
 returns-in-Without c =
-    let at-step2 = c.before.before.before in
-    let m = at-step2.before in
+    let at_step2 = c.before.before.before in
+    let m = at_step2.before in
     let at_left = m.before in
-    let at-kind = at_left.before in
-    let s = at-kind.before in
-    let N = stepped m at-step2.in-Without.is in
-    laid_without s.requires.given.0 s.requires.laying.0 s.requires.laying.1 at-kind.kind-within.ensures at_left.left-row.ensures N.2 N.1 c.put_leaf-in-Without.ensures.by_index c.put_leaf-in-Without.ensures.masks_after
+    let at_kind = at_left.before in
+    let s = at_kind.before in
+    let N = stepped m at_step2.in-Without.is in
+    laid_without s.requires.given.0 s.requires.laying.0 s.requires.laying.1 at_kind.kind-within.ensures at_left.left-row.ensures N.2 N.1 c.put_leaf-in-Without.ensures.by_index c.put_leaf-in-Without.ensures.masks_after
 
 pub returns-in-Either : goal.returns-in-Either
 returns-in-Either c =
     let at_wide = c.before.before.before in
-    let at-step3 = at_wide.before.before.before.before.before in
-    let m = at-step3.before in
+    let at_step3 = at_wide.before.before.before.before.before in
+    let m = at_step3.before in
     let at_left = m.before in
-    let at-kind = at_left.before in
-    let s = at-kind.before in
-    let N = stepped m at-step3.in-Either.is in
-    laid_either s.requires.given.0 s.requires.laying.0 s.requires.laying.1 at-kind.kind-within.ensures at_left.left-row.ensures s.requires.given.1 _ _ N.1 N.2 at_wide.wide.ensures N.0 c.put_pair.ensures
+    let at_kind = at_left.before in
+    let s = at_kind.before in
+    let N = stepped m at_step3.in-Either.is in
+    laid_either s.requires.given.0 s.requires.laying.0 s.requires.laying.1 at_kind.kind-within.ensures at_left.left-row.ensures s.requires.given.1 _ _ N.1 N.2 at_wide.wide.ensures N.0 c.put_pair.ensures
 
 pub returns-in-Both : goal.returns-in-Both
 returns-in-Both c =
-    let at-wide2 = c.before.before.before.before.before in
-    let at-step4 = at-wide2.before.before.before in
-    let m = at-step4.before in
+    let at_wide2 = c.before.before.before.before.before in
+    let at_step4 = at_wide2.before.before.before in
+    let m = at_step4.before in
     let at_left = m.before in
-    let at-kind = at_left.before in
-    let s = at-kind.before in
-    let N = stepped m at-step4.in-Both.is in
-    laid_both s.requires.given.0 s.requires.laying.0 s.requires.laying.1 at-kind.kind-within.ensures at_left.left-row.ensures s.requires.given.1 _ _ N.1 N.2 at-wide2.wide-in-Both.ensures N.0 c.narrow.ensures c.narrow-in-Both.ensures c.put_pair-in-Both.ensures
+    let at_kind = at_left.before in
+    let s = at_kind.before in
+    let N = stepped m at_step4.in-Both.is in
+    laid_both s.requires.given.0 s.requires.laying.0 s.requires.laying.1 at_kind.kind-within.ensures at_left.left-row.ensures s.requires.given.1 _ _ N.1 N.2 at_wide2.wide-in-Both.ensures N.0 c.narrow.ensures c.narrow-in-Both.ensures c.put_pair-in-Both.ensures

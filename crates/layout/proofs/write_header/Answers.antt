@@ -54,80 +54,80 @@ raise-requires-2 c =
 
 pub bounds-list-2 : goal.bounds-list-2
 bounds-list-2 c =
-    let at-raise = c.before.before.before in
-    simp length-set (omega (arith, at-raise.requires.header_words_in_bounds))
+    let at_raise = c.before.before.before in
+    simp length-set (omega (arith, at_raise.requires.header_words_in_bounds))
 
 pub raise-requires-3 : goal.raise-requires-3
 raise-requires-3 c =
-    let at-raise = c.before.before.before.before in
-    let s = at-raise.before.before.before in
+    let at_raise = c.before.before.before.before in
+    let s = at_raise.before.before.before in
     reread w32 (within (range Code)) (fits s).ylo (window_right s.args.w s.requires.w_value).y.lo_in
 
 pub bounds-list-3 : goal.bounds-list-3
 bounds-list-3 c =
-    let at-raise = c.before.before.before.before.before in
-    simp length-set (omega (arith, at-raise.requires.header_words_in_bounds))
+    let at_raise = c.before.before.before.before.before in
+    simp length-set (omega (arith, at_raise.requires.header_words_in_bounds))
 
 pub raise-requires-4 : goal.raise-requires-4
 raise-requires-4 c =
-    let at-raise2 = c.before.before.before.before in
-    let at-raise = at-raise2.before.before in
-    let s = at-raise.before.before.before in
+    let at_raise2 = c.before.before.before.before in
+    let at_raise = at_raise2.before.before in
+    let s = at_raise.before.before.before in
     reread w32 (within (range Code)) (fits s).yhi (window_right s.args.w s.requires.w_value).y.hi_in
 
 pub bounds-list-4 : goal.bounds-list-4
 bounds-list-4 c =
-    let at-raise2 = c.before.before.before.before.before in
-    let at-raise = at-raise2.before.before in
-    simp length-set (omega (arith, at-raise.requires.header_words_in_bounds))
+    let at_raise2 = c.before.before.before.before.before in
+    let at_raise = at_raise2.before.before in
+    simp length-set (omega (arith, at_raise.requires.header_words_in_bounds))
 
 pub raise-requires-5 : goal.raise-requires-5
 raise-requires-5 c =
-    let at-raise3 = c.before.before.before.before in
-    let at-raise = at-raise3.before.before.before.before in
-    let s = at-raise.before.before.before in
+    let at_raise3 = c.before.before.before.before in
+    let at_raise = at_raise3.before.before.before.before in
+    let s = at_raise.before.before.before in
     reread w32 (within (range Frame)) (fits s).zlo (window_right s.args.w s.requires.w_value).z.lo_in
 
 pub bounds-list-5 : goal.bounds-list-5
 bounds-list-5 c =
-    let at-raise3 = c.before.before.before.before.before in
-    let at-raise = at-raise3.before.before.before.before in
-    simp length-set (omega (arith, at-raise.requires.header_words_in_bounds))
+    let at_raise3 = c.before.before.before.before.before in
+    let at_raise = at_raise3.before.before.before.before in
+    simp length-set (omega (arith, at_raise.requires.header_words_in_bounds))
 
 pub raise-requires-6 : goal.raise-requires-6
 raise-requires-6 c =
-    let at-raise4 = c.before.before.before.before in
-    let at-raise2 = at-raise4.before.before.before.before in
-    let at-raise = at-raise2.before.before in
-    let s = at-raise.before.before.before in
+    let at_raise4 = c.before.before.before.before in
+    let at_raise2 = at_raise4.before.before.before.before in
+    let at_raise = at_raise2.before.before in
+    let s = at_raise.before.before.before in
     reread w32 (within (range Frame)) (fits s).zhi (window_right s.args.w s.requires.w_value).z.hi_in
 
 pub bounds-list-6 : goal.bounds-list-6
 bounds-list-6 c =
-    let at-raise4 = c.before.before.before.before in
-    let at-raise2 = at-raise4.before.before.before.before in
-    let at-raise = at-raise2.before.before in
-    simp length-set (omega (arith, at-raise.requires.header_words_in_bounds))
+    let at_raise4 = c.before.before.before.before in
+    let at_raise2 = at_raise4.before.before.before.before in
+    let at_raise = at_raise2.before.before in
+    simp length-set (omega (arith, at_raise.requires.header_words_in_bounds))
 
 pub bounds-list-7 : goal.bounds-list-7
 bounds-list-7 c =
-    let at-raise4 = c.before.before.before.before in
-    let at-raise2 = at-raise4.before.before.before.before in
-    let at-raise = at-raise2.before.before in
-    simp length-set (omega (arith, at-raise.requires.header_words_in_bounds))
+    let at_raise4 = c.before.before.before.before in
+    let at_raise2 = at_raise4.before.before.before.before in
+    let at_raise = at_raise2.before.before in
+    simp length-set (omega (arith, at_raise.requires.header_words_in_bounds))
 
 pub returns : goal.returns
 returns c =
-    let at-raise4 = c.before.before.before.before in
-    let at-raise3 = at-raise4.before.before in
-    let at-raise2 = at-raise3.before.before in
-    let at-raise = at-raise2.before.before in
-    let s = at-raise.before.before.before in
+    let at_raise4 = c.before.before.before.before in
+    let at_raise3 = at_raise4.before.before in
+    let at_raise2 = at_raise3.before.before in
+    let at_raise = at_raise2.before.before in
+    let s = at_raise.before.before.before in
     let f = fits s in
-    let xlo = lent Column f.xlo at-raise.raise.ensures in
-    let xhi = lent Column f.xhi at-raise2.raise-2.ensures in
-    let ylo = lent Code f.ylo at-raise3.raise-3.ensures in
-    let yhi = lent Code f.yhi at-raise4.raise-4.ensures in
+    let xlo = lent Column f.xlo at_raise.raise.ensures in
+    let xhi = lent Column f.xhi at_raise2.raise-2.ensures in
+    let ylo = lent Code f.ylo at_raise3.raise-3.ensures in
+    let yhi = lent Code f.yhi at_raise4.raise-4.ensures in
     let zlo = lent Frame f.zlo c.raise-5.ensures in
     let zhi = lent Frame f.zhi c.raise-6.ensures in
     λ i. sets s.args.list.now 0 (s.args.products ∷ xlo i ∷ xhi i ∷ ylo i ∷ yhi i ∷ zlo i ∷ zhi i ∷ s.args.primitives ∷ [])

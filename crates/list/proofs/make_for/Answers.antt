@@ -26,16 +26,16 @@ ways_of-ways-requires c = (sound c.before.before.before.before.before, c.number_
 
 pub returns-then-ways-gt-MOST_CHOICES : goal.returns-then-ways-gt-MOST_CHOICES
 returns-then-ways-gt-MOST_CHOICES c =
-    let at-number-rows = c.before.before.before.before in
-    let s = at-number-rows.before.before.before in
+    let at_number_rows = c.before.before.before.before in
+    let s = at_number_rows.before.before.before in
     made_many s.args.table.now s.args.w s.args.list.now s.requires.0 s.requires.1 (c.ways_of-ways.ensures ∙ sym (expansion_ways s.args.table.now)) c.if-ways-gt-MOST_CHOICES.true
 
 pub make_of-requires : goal.make_of-requires
 make_of-requires c =
-    let at-ways-of = c.before.before.before in
-    let at-number-rows = at-ways-of.before.before in
-    let s = at-number-rows.before.before.before in record {
+    let at_ways_of = c.before.before.before in
+    let at_number_rows = at_ways_of.before.before in
+    let s = at_number_rows.before.before.before in record {
       table_value = s.requires;
-      numbered = (at-number-rows.number_rows-solids.ensures.1, at-number-rows.number_rows-solids.ensures.0);
-      ways_value = (at-ways-of.ways_of-ways.ensures, omega (arith, c.if-ways-gt-MOST_CHOICES.false));
+      numbered = (at_number_rows.number_rows-solids.ensures.1, at_number_rows.number_rows-solids.ensures.0);
+      ways_value = (at_ways_of.ways_of-ways.ensures, omega (arith, c.if-ways-gt-MOST_CHOICES.false));
     }

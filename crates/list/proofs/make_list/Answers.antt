@@ -6,12 +6,12 @@ use Rattle.list.proofs.make_list.Goals as goal
 
 pub make_in-requires : goal.make_in-requires
 make_in-requires c =
-    let at-check = c.before.before in
-    let s = at-check.before.before in
-    went_on (table_refusal s.args.table.now) (sym c.in-Sound.is ∙ at-check.check-checked.ensures)
+    let at_check = c.before.before in
+    let s = at_check.before.before in
+    went_on (table_refusal s.args.table.now) (sym c.in-Sound.is ∙ at_check.check-checked.ensures)
 
 pub returns-in-Refused : goal.returns-in-Refused
 returns-in-Refused c =
-    let at-check = c.before.before in
-    let s = at-check.before.before in
-    made_table s.args.table.now s.args.w s.args.list.now (stopped (table_refusal s.args.table.now) (sym c.in-Refused.is ∙ at-check.check-checked.ensures))
+    let at_check = c.before.before in
+    let s = at_check.before.before in
+    made_table s.args.table.now s.args.w s.args.list.now (stopped (table_refusal s.args.table.now) (sym c.in-Refused.is ∙ at_check.check-checked.ensures))

@@ -72,18 +72,18 @@ measure-needed-requires c =
 
 pub returns-then-list-needed : goal.returns-then-list-needed
 returns-then-list-needed c =
-    let at-measure = c.before.before.before.before in
-    let m = at-measure.before.before.before.before in
+    let at_measure = c.before.before.before.before in
+    let m = at_measure.before.before.before.before in
     let s = start m in
-    let same = at-measure.measure-needed.ensures.1 in
-    let short : length s.args.list.now < at-measure.measure-needed.result = omega (arith, c.if-list-needed.true, ap length same) in
-    subst (λ (l : List ℕ). ListMade s.args.table.now s.args.w s.args.list.now l (written.Refused (record { number = 8; value = at-measure.measure-needed.result }))) (sym same)
-    (made_room s.args.table.now s.args.w s.args.list.now s.requires.table_value.0 s.requires.table_value.1 (not_many s) (at-measure.measure-needed.ensures.0.exact short ∙ all_words m) short)
+    let same = at_measure.measure-needed.ensures.1 in
+    let short : length s.args.list.now < at_measure.measure-needed.result = omega (arith, c.if-list-needed.true, ap length same) in
+    subst (λ (l : List ℕ). ListMade s.args.table.now s.args.w s.args.list.now l (written.Refused (record { number = 8; value = at_measure.measure-needed.result }))) (sym same)
+    (made_room s.args.table.now s.args.w s.args.list.now s.requires.table_value.0 s.requires.table_value.1 (not_many s) (at_measure.measure-needed.ensures.0.exact short ∙ all_words m) short)
 
 -- where the room is not too small, the list has room
 there : (r : Else1) →
-    let at-measure = r.before.before.before in
-    let m = at-measure.before.before.before.before in
+    let at_measure = r.before.before.before in
+    let m = at_measure.before.before.before.before in
     place_of (length (all m)) ≤ length (start m).args.list.now
 there r =
     let measured = r.measure-needed.ensures in
@@ -92,42 +92,42 @@ there r =
 pub walk-n-requires : goal.walk-n-requires
 walk-n-requires c =
     let r = c.before.before.before in
-    let at-measure = r.before.before.before in
-    let at-lay = at-measure.before.before.before.before in record {
-      sound_rows = at-lay.lay-end.ensures.sound;
-      seen_len_bound = omega (arith, all_few at-lay, (start at-lay).requires.ways_value.1);
-      seen_in_bounds = λ k. omega (arith, there r, ap length at-measure.measure-needed.ensures.1);
+    let at_measure = r.before.before.before in
+    let at_lay = at_measure.before.before.before.before in record {
+      sound_rows = at_lay.lay-end.ensures.sound;
+      seen_len_bound = omega (arith, all_few at_lay, (start at_lay).requires.ways_value.1);
+      seen_in_bounds = λ k. omega (arith, there r, ap length at_measure.measure-needed.ensures.1);
     }
 
 pub write_header-requires : goal.write_header-requires
 write_header-requires c =
-    let at-walk = c.before.before.before in
-    let r = at-walk.before.before.before.before in
-    let at-measure = r.before.before.before in
-    let at-lay = at-measure.before.before.before.before in record {
-      w_value = (start at-lay).requires.table_value.1;
-      header_words_in_bounds = omega (arith, there r, put_length true at-walk.walk-n.ensures, ap length at-measure.measure-needed.ensures.1);
+    let at_walk = c.before.before.before in
+    let r = at_walk.before.before.before.before in
+    let at_measure = r.before.before.before in
+    let at_lay = at_measure.before.before.before.before in record {
+      w_value = (start at_lay).requires.table_value.1;
+      header_words_in_bounds = omega (arith, there r, put_length true at_walk.walk-n.ensures, ap length at_measure.measure-needed.ensures.1);
     }
 
 pub place_of-requires : goal.place_of-requires
 place_of-requires c =
-    let at-write-header = c.before.before.before in
-    let at-walk = at-write-header.before.before.before.before in
-    let else1 = at-walk.before.before.before.before in
-    let at-measure = else1.before.before.before in
-    let at-lay = at-measure.before.before.before.before in
-    omega (arith, at-walk.walk-n.ensures.count, all_few at-lay, (start at-lay).requires.ways_value.1)
+    let at_write_header = c.before.before.before in
+    let at_walk = at_write_header.before.before.before.before in
+    let else1 = at_walk.before.before.before.before in
+    let at_measure = else1.before.before.before in
+    let at_lay = at_measure.before.before.before.before in
+    omega (arith, at_walk.walk-n.ensures.count, all_few at_lay, (start at_lay).requires.ways_value.1)
 
 pub returns : goal.returns
 returns c =
-    let at-write-header = c.before.before.before.before in
-    let at-walk = at-write-header.before.before.before.before in
-    let else1 = at-walk.before.before.before.before in
-    let at-measure = else1.before.before.before in
-    let m = at-measure.before.before.before.before in
+    let at_write_header = c.before.before.before.before in
+    let at_walk = at_write_header.before.before.before.before in
+    let else1 = at_walk.before.before.before.before in
+    let at_measure = else1.before.before.before in
+    let m = at_measure.before.before.before.before in
     let s = start m in
-    let put = at-walk.walk-n in
+    let put = at_walk.walk-n in
     let n : put.result ≡ length (all m) = omega (arith, put.ensures.count) in
-    let now = put.ensures.words ∙ ap (λ (l : List ℕ). sets l header_words (flat_map words_of (all m))) at-measure.measure-needed.ensures.1 in
+    let now = put.ensures.words ∙ ap (λ (l : List ℕ). sets l header_words (flat_map words_of (all m))) at_measure.measure-needed.ensures.1 in
     made_fine s.args.table.now s.args.w s.args.list.now s.requires.table_value.0 s.requires.table_value.1 (not_many s) (c.place_of.ensures ∙ ap place_of n ∙ all_words m) (omega (arith, c.place_of.ensures, n, there else1))
-    (list_written s.args.table.now s.args.w s.args.list.now (all_products m) n s.requires.numbered.1 (there else1) now at-write-header.write_header.ensures)
+    (list_written s.args.table.now s.args.w s.args.list.now (all_products m) n s.requires.numbered.1 (there else1) now at_write_header.write_header.ensures)

@@ -42,8 +42,8 @@ returns c =
     let across = along.before in
     let s = across.before in
     let past_is = read w64 past.past_ellipse.type_inv past.past_ellipse.ensures.value ∙ λ i. past_ellipse (cx s i) (cy s i) (rx s i) (ry s i) (x s i) (y s i) in
-    let across-is = across.bend_weight.ensures.value ∙ λ i. bend_weight (ry s i) (cx s i) (x s i) in
-    let along-is = along.bend_weight-2.ensures.value ∙ λ i. bend_weight (rx s i) (cy s i) (y s i) in record {
-      slack = slack_as (le_refl c.slack.result) past_is (ap₂ ◌+◌ across-is along-is) c.slack.ensures.slack;
+    let across_is = across.bend_weight.ensures.value ∙ λ i. bend_weight (ry s i) (cx s i) (x s i) in
+    let along_is = along.bend_weight-2.ensures.value ∙ λ i. bend_weight (rx s i) (cy s i) (y s i) in record {
+      slack = slack_as (le_refl c.slack.result) past_is (ap₂ ◌+◌ across_is along_is) c.slack.ensures.slack;
       bounded = c.slack.ensures.bounded;
     }

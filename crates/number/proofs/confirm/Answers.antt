@@ -29,17 +29,17 @@ put_number-size-requires c = omega (arith, few_bytes (handed c.before.before.bef
 
 pub slice_bounds-own-end : goal.slice_bounds-own-end
 slice_bounds-own-end c =
-    let at-put-number = c.before.before.before in
-    let s = at-put-number.before.before.before in
-    let put = at-put-number.put_number-size in
+    let at_put_number = c.before.before.before in
+    let s = at_put_number.before.before.before in
+    let put = at_put_number.put_number-size in
     omega (arith, put.ensures.end, put.auto.text, few_bytes (handed s))
 
 pub returns : goal.returns
 returns c =
-    let at-put-number = c.before.before.before.before.before in
-    let s = at-put-number.before.before.before in
+    let at_put_number = c.before.before.before.before.before in
+    let s = at_put_number.before.before.before in
     let lent = to_z-of_z w32 s.args.value s.ranges.value in
-    let own = put_taken (few_bytes (handed s)) at-put-number.put_number-size.ensures in
+    let own = put_taken (few_bytes (handed s)) at_put_number.put_number-size.ensures in
     let part = take (s.args.next - s.args.at) (drop s.args.at s.args.text.now) in
     record {
       value_is = lent;

@@ -21,9 +21,9 @@ put_decimal-requires c =
 pub returns-then-v-lt0 : goal.returns-then-v-lt0
 returns-then-v-lt0 c =
     let then1 = c.before.before.before.before.before in
-    let at-magnitude = then1.before in
-    let s = at-magnitude.before.before in
-    let m = at-magnitude.magnitude-n in
+    let at_magnitude = then1.before in
+    let s = at_magnitude.before.before in
+    let m = at_magnitude.magnitude-n in
     let text = with_minus s.args.v s.ranges.v m.ensures then1.if-v-lt0.true in
     put_same text (put_join (put_one minus s.args.text.now s.args.at) c.put_decimal.ensures)
 
@@ -36,8 +36,8 @@ put_decimal-requires-2 c =
 pub returns : goal.returns
 returns c =
     let else1 = c.before.before.before.before.before in
-    let at-magnitude = else1.before in
-    let s = at-magnitude.before.before in
-    let m = at-magnitude.magnitude-n in
+    let at_magnitude = else1.before in
+    let s = at_magnitude.before.before in
+    let m = at_magnitude.magnitude-n in
     let text = without_minus s.args.v s.ranges.v m.ensures else1.if-v-lt0.false in
     put_same text c.put_decimal-2.ensures

@@ -12,11 +12,11 @@ returns-then-text-at c =
 
 pub confirm-requires : goal.confirm-requires
 confirm-requires c =
-    let at-read-digits = c.before.before in
-    let else1 = at-read-digits.before.before.before in
+    let at_read_digits = c.before.before in
+    let else1 = at_read_digits.before.before.before in
     let s = else1.before.before in
     let s = s.args in
-    let stops = run_stops s.text.now s.at (s.at + 1) (omega arith) (omega arith) at-read-digits.read_digits-below.ensures in
+    let stops = run_stops s.text.now s.at (s.at + 1) (omega arith) (omega arith) at_read_digits.read_digits-below.ensures in
     (stops.after, stops.inside)
 
 pub returns-then-text-at-eq45 : goal.returns-then-text-at-eq45

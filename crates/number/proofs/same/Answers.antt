@@ -45,10 +45,10 @@ loop-i-smaller c = omega arith
 
 pub loop-i-preserved : goal.loop-i-preserved
 loop-i-preserved c =
-    let at-loop = c.before.before.before.before.before in
-    let s = at-loop.before.before in
+    let at_loop = c.before.before.before.before.before in
+    let s = at_loop.before.before in
     let s = s.args in
-    let l = at-loop.loop-i in
+    let l = at_loop.loop-i in
     (omega arith, l.invariant.1, same_more s.a.now s.b.now l.i l.invariant.2 (omega arith) (omega arith) c.if-a-i.false)
 
 pub returns : goal.returns

@@ -24,9 +24,9 @@ read_fields-requires t c =
 pub returns-then-field : goal.returns-then-field
 returns-then-field t c =
     let then2 = c.before.before.before.before.before in
-    let at-read-field = then2.before in
-    let s = at-read-field.before.before.before in
-    let field = at-read-field.read_field-field in
+    let at_read_field = then2.before in
+    let s = at_read_field.before.before.before in
+    let field = at_read_field.read_field-field in
     let others = c.read_fields.ensures in
     let read_back : to_z w32 (of_z w32 field.result.value) ≡ field.result.value = search rules in
     record {

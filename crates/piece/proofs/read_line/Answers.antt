@@ -18,9 +18,9 @@ use Rattle.piece.proofs.read_line.Goals as goal
 pub read_fields-fields-requires : goal.read_fields-fields-requires
 read_fields-fields-requires c =
     let then1 = c.before.before.before.before in
-    let at-read-name = then1.before in
-    let s = at-read-name.before.before in
-    let name = at-read-name.read_name-name in
+    let at_read_name = then1.before in
+    let s = at_read_name.before.before in
+    let name = at_read_name.read_name-name in
     let named = c.named_words-named.ensures in record {
       at_in_bounds = (name.ensures.sound then1.if-name.true).1.inside;
       count_in_bounds = simp length-set (omega (arith, s.requires.place_in_bounds, named, few_named name.result.kind));
@@ -31,16 +31,16 @@ read_bytes-requires c = (c.read_fields-fields.ensures.reads.sound c.if-fields.tr
 
 pub returns-then-fields : goal.returns-then-fields
 returns-then-fields c =
-    let at-read-fields = c.before.before.before.before.before.before in
-    let at-named-words = at-read-fields.before.before in
-    let at-kind-number = at-named-words.before in
-    let then1 = at-kind-number.before in
-    let at-read-name = then1.before in
-    let s = at-read-name.before.before in
-    let name = at-read-name.read_name-name in
-    let number = at-kind-number.kind_number in
-    let named = at-named-words.named_words-named in
-    let fields = at-read-fields.read_fields-fields.ensures in
+    let at_read_fields = c.before.before.before.before.before.before in
+    let at_named_words = at_read_fields.before.before in
+    let at_kind_number = at_named_words.before in
+    let then1 = at_kind_number.before in
+    let at_read_name = then1.before in
+    let s = at_read_name.before.before in
+    let name = at_read_name.read_name-name in
+    let number = at_kind_number.kind_number in
+    let named = at_named_words.named_words-named in
+    let fields = at_read_fields.read_fields-fields.ensures in
     let word : to_z w32 number.result ≡ pos (kind_number name.result.kind)
     = to_z_pos w32 number.result (search rules) ∙ ap pos number.ensures in
     record {
@@ -52,11 +52,11 @@ returns-then-fields c =
 
 pub returns-else-fields : goal.returns-else-fields
 returns-else-fields c =
-    let at-named-words = c.before.before.before.before.before in
-    let at-read-name = at-named-words.before.before.before in
-    let s = at-read-name.before.before in
-    let name = at-read-name.read_name-name in
-    let named = at-named-words.named_words-named.ensures in
+    let at_named_words = c.before.before.before.before.before in
+    let at_read_name = at_named_words.before.before.before in
+    let s = at_read_name.before.before in
+    let name = at_read_name.read_name-name in
+    let named = at_named_words.named_words-named.ensures in
     let fields = c.read_fields-fields.ensures in
     record {
       row = no_row;

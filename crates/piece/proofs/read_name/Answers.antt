@@ -16,32 +16,32 @@ returns-then-name c =
 
 pub returns-then-name-2 : goal.returns-then-name-2
 returns-then-name-2 c =
-    let at-try-name = c.before.before.before.before.before.before in
-    let s = at-try-name.before.before.before in
+    let at_try_name = c.before.before.before.before.before.before in
+    let s = at_try_name.before.before.before in
     named s.args.text.now s.args.at c.try_name-name-2.ensures c.if-name-2.true
 
 pub returns-then-name-3 : goal.returns-then-name-3
 returns-then-name-3 c =
-    let at-try-name2 = c.before.before.before.before.before.before in
-    let at-try-name = at-try-name2.before.before.before.before in
-    let s = at-try-name.before.before.before in
+    let at_try_name2 = c.before.before.before.before.before.before in
+    let at_try_name = at_try_name2.before.before.before.before in
+    let s = at_try_name.before.before.before in
     named s.args.text.now s.args.at c.try_name-name-3.ensures c.if-name-3.true
 
 pub returns-then-name-4 : goal.returns-then-name-4
 returns-then-name-4 c =
-    let at-try-name3 = c.before.before.before.before.before.before in
-    let at-try-name2 = at-try-name3.before.before.before.before in
-    let at-try-name = at-try-name2.before.before.before.before in
-    let s = at-try-name.before.before.before in
+    let at_try_name3 = c.before.before.before.before.before.before in
+    let at_try_name2 = at_try_name3.before.before.before.before in
+    let at_try_name = at_try_name2.before.before.before.before in
+    let s = at_try_name.before.before.before in
     named s.args.text.now s.args.at c.try_name-name-4.ensures c.if-name-4.true
 
 pub returns-then-name-5 : goal.returns-then-name-5
 returns-then-name-5 c =
-    let at-try-name4 = c.before.before.before.before.before.before in
-    let at-try-name3 = at-try-name4.before.before.before.before in
-    let at-try-name2 = at-try-name3.before.before.before.before in
-    let at-try-name = at-try-name2.before.before.before.before in
-    let s = at-try-name.before.before.before in
+    let at_try_name4 = c.before.before.before.before.before.before in
+    let at_try_name3 = at_try_name4.before.before.before.before in
+    let at_try_name2 = at_try_name3.before.before.before.before in
+    let at_try_name = at_try_name2.before.before.before.before in
+    let s = at_try_name.before.before.before in
     named s.args.text.now s.args.at c.try_name-name-5.ensures c.if-name-5.true
 
 pub try_name-name-requires-6 : goal.try_name-name-requires-6

@@ -53,8 +53,8 @@ slice_aggregate_put_list c = search rules
 
 put_list_requires : tie.Need-put-list-requires
 put_list_requires c κs =
-    let at-list2 = c.before.before.before.before in
-    let m = at-list2.before in
+    let at_list2 = c.before.before.before.before in
+    let m = at_list2.before in
     let s = m.before.before.before.before in
     (made_whole (table m) zeros (list m) size (made m c.before.before.enum_told.given.1), s.requires)
 
@@ -63,22 +63,22 @@ same_length c = search rules
 
 returns : tie.Need-returns
 returns c =
-    let at-put-refusal = c.before.before in
-    let at-made = at-put-refusal.before.before.before in
-    let m = at-made.before.before.before in
-    let bytes = refused_listing (table m) zeros (list m) size (made m at-made.made.given.1) in
-    put_same bytes at-put-refusal.put-refusal.ensures
+    let at_put_refusal = c.before.before in
+    let at_made = at_put_refusal.before.before.before in
+    let m = at_made.before.before.before in
+    let bytes = refused_listing (table m) zeros (list m) size (made m at_made.made.given.1) in
+    put_same bytes at_put_refusal.put-refusal.ensures
 
 same_length_2 : tie.Need-same-length-2
 same_length_2 c = search rules
 
 returns-2 : tie.Need-returns-2
 returns-2 c =
-    let at-put-list = c.before.before in
-    let at-enum-told = at-put-list.before.before.before in
-    let m = at-enum-told.before.before.before in
-    let bytes = made_listing (table m) zeros (list m) size (made m at-enum-told.enum_told.given.1) in
-    put_same bytes at-put-list.put-list.ensures
+    let at_put_list = c.before.before in
+    let at_enum_told = at_put_list.before.before.before in
+    let m = at_enum_told.before.before.before in
+    let bytes = made_listing (table m) zeros (list m) size (made m at_enum_told.enum_told.given.1) in
+    put_same bytes at_put_list.put-list.ensures
 
 pub list_table_spec : {M : Type 1} → statement M
 list_table_spec =

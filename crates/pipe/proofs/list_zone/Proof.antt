@@ -55,24 +55,24 @@ same_length c = search rules
 
 returns : tie.Need-returns
 returns c =
-    let at-put-refusal = c.before.before in
-    let at_read = at-put-refusal.before.before.before in
+    let at_put_refusal = c.before.before in
+    let at_read = at_put_refusal.before.before.before in
     let r = at_read.before.before.before in
     let s = r.before.before.before.before in
     let answer = at_read.read.given.1 in
-    text_refused size (read r answer) s.requires at-put-refusal.put-refusal.ensures
+    text_refused size (read r answer) s.requires at_put_refusal.put-refusal.ensures
 
 same_length_2 : tie.Need-same-length-2
 same_length_2 c = search rules
 
 returns-2 : tie.Need-returns-2
 returns-2 c =
-    let at-list-table = c.before.before in
-    let at-read2 = at-list-table.before.before.before.before in
-    let r = at-read2.before.before.before in
+    let at_list_table = c.before.before in
+    let at_read2 = at_list_table.before.before.before.before in
+    let r = at_read2.before.before.before in
     let s = r.before.before.before.before in
-    let answer = at-read2.read2.given.1 in
-    text_listed (read r answer) s.requires at-list-table.list-table.ensures
+    let answer = at_read2.read2.given.1 in
+    text_listed (read r answer) s.requires at_list_table.list-table.ensures
 
 pub list_zone_spec : {M : Type 1} → statement M
 list_zone_spec =

@@ -4,11 +4,11 @@ use Rattle.places.proofs.fork.Goals as goal
 
 pub returns-then-kind-eq2 : goal.returns-then-kind-eq2
 returns-then-kind-eq2 c =
-    let at-span = c.before.before.before in
-    let then1 = at-span.before.before in
-    let at-kind = then1.before in
-    let s = at-kind.before in
-    (fork_right s.args.links.now s.args.masks.now s.args.at at-kind.kind.ensures at-span.span.ensures then1.if-kind-eq2.true c.put_aside.ensures.0, c.put_aside.ensures.1)
+    let at_span = c.before.before.before in
+    let then1 = at_span.before.before in
+    let at_kind = then1.before in
+    let s = at_kind.before in
+    (fork_right s.args.links.now s.args.masks.now s.args.at at_kind.kind.ensures at_span.span.ensures then1.if-kind-eq2.true c.put_aside.ensures.0, c.put_aside.ensures.1)
 
 pub returns : goal.returns
 returns c =

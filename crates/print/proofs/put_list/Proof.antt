@@ -22,12 +22,12 @@ put_word_requires c κs = search rules
 
 put_products_requires : tie.Need-put-products-requires
 put_products_requires c κs =
-    let at-put-word = c.before.before.before in
-    let at-put-bytes = at-put-word.before.before.before.before in
-    let at-shared-slice-known = at-put-bytes.before.before.before.before in
-    let s = at-shared-slice-known.before.before in
-    let name = at-put-bytes.put-bytes.ensures in
-    let count = at-put-word.put_word.ensures in
+    let at_put_word = c.before.before.before in
+    let at_put_bytes = at_put_word.before.before.before.before in
+    let at_shared_slice_known = at_put_bytes.before.before.before.before in
+    let s = at_shared_slice_known.before.before in
+    let name = at_put_bytes.put-bytes.ensures in
+    let count = at_put_word.put_word.ensures in
     let room = word_most (product_count s.args.list.now) line_feed in
     (s.requires.0.0, omega (arith, s.requires.0.1, s.requires.1, name.end, put_size name, count.end, put_size count, room))
 
@@ -36,14 +36,14 @@ same_length c = search rules
 
 returns : tie.Need-returns
 returns c =
-    let at-put-products = c.before.before in
-    let at-put-word = at-put-products.before.before.before.before in
-    let at-put-bytes = at-put-word.before.before.before.before in
-    let at-shared-slice-known = at-put-bytes.before.before.before.before in
-    let s = at-shared-slice-known.before.before in
-    let name = at-put-bytes.put-bytes.ensures in
-    let count = at-put-word.put_word.ensures in
-    put_same (lines_of_list s.args.list.now) (put_join name (put_join count at-put-products.put-products.ensures))
+    let at_put_products = c.before.before in
+    let at_put_word = at_put_products.before.before.before.before in
+    let at_put_bytes = at_put_word.before.before.before.before in
+    let at_shared_slice_known = at_put_bytes.before.before.before.before in
+    let s = at_shared_slice_known.before.before in
+    let name = at_put_bytes.put-bytes.ensures in
+    let count = at_put_word.put_word.ensures in
+    put_same (lines_of_list s.args.list.now) (put_join name (put_join count at_put_products.put-products.ensures))
 
 pub put_list_spec : {M : Type 1} → statement M
 put_list_spec =

@@ -27,9 +27,9 @@ product_at_requires c κs = omega (arith, c.before.before.before.before.requires
 
 put_pair_requires : tie.Need-put-pair-requires invariant-loop decreases-loop
 put_pair_requires c κs =
-    let at-loop = c.before.before.before in
-    let s = at-loop.before.before.before in
-    let l = at-loop.loop in
+    let at_loop = c.before.before.before in
+    let s = at_loop.before.before.before in
+    let l = at_loop.loop in
     omega (arith, s.requires.1, l.invariant.1.end, put_size l.invariant.1, lines_room s.args.list.now l.k, c.before.before.loop-test.true)
 
 add_k : tie.Need-overflow-add-k invariant-loop decreases-loop
@@ -40,12 +40,12 @@ loop_less c = omega arith
 
 loop_again : tie.Need-loop-preserved invariant-loop decreases-loop
 loop_again c =
-    let at-product-at = c.before.before.before.before in
-    let at-loop = at-product-at.before.before in
-    let s = at-loop.before.before.before in
+    let at_product_at = c.before.before.before.before in
+    let at_loop = at_product_at.before.before in
+    let s = at_loop.before.before.before in
     let s = s.args in
-    let l = at-loop.loop in
-    let product : at-product-at.product_at.result ≡ product_at s.list.now l.k = at-product-at.product_at.ensures in
+    let l = at_loop.loop in
+    let product : at_product_at.product_at.result ≡ product_at s.list.now l.k = at_product_at.product_at.ensures in
     let line = put_same (ap product_line (sym product)) c.before.before.put-pair.ensures in
     (omega arith, put_same (lines_next s.list.now l.k) (put_join l.invariant.1 line))
 

@@ -17,9 +17,9 @@ same_length c = search rules
 
 returns : tie.Need-returns
 returns c =
-    let at-put-pair = c.before.before in
-    let at-put-bytes = at-put-pair.before.before.before.before in
-    put_join at-put-bytes.put-bytes.ensures at-put-pair.put-pair.ensures
+    let at_put_pair = c.before.before in
+    let at_put_bytes = at_put_pair.before.before.before.before in
+    put_join at_put_bytes.put-bytes.ensures at_put_pair.put-pair.ensures
 
 pub put_refusal_spec : {M : Type 1} → statement M
 put_refusal_spec = tie.close (tie.spec slice_aggregate_put_bytes put_bytes_requires put_pair_requires same_length returns)

@@ -10,9 +10,9 @@ put_decimal_requires c κs = let s = c.before.before in omega (arith, s.requires
 
 slice_write_out : tie.Need-slice-write-out
 slice_write_out c =
-    let at-put-decimal = c.before.before in
-    let s = at-put-decimal.before.before.before in
-    let number = at-put-decimal.put-decimal.ensures in
+    let at_put_decimal = c.before.before in
+    let s = at_put_decimal.before.before.before in
+    let number = at_put_decimal.put-decimal.ensures in
     omega (arith, s.requires, number.end, put_size number, few_digits 20 s.args.n)
 
 add_result : tie.Need-overflow-add-result
@@ -23,9 +23,9 @@ same_length c = search rules
 
 returns : tie.Need-returns
 returns c =
-    let at-put-decimal = c.before.before in
-    let s = at-put-decimal.before.before.before in
-    let number = at-put-decimal.put-decimal in
+    let at_put_decimal = c.before.before in
+    let s = at_put_decimal.before.before.before in
+    let number = at_put_decimal.put-decimal in
     put_join number.ensures (put_one s.args.last number.new.0 number.result)
 
 pub put_word_spec : {M : Type 1} → statement M

@@ -39,12 +39,12 @@ axis {alo} {ahi} {blo} {bhi} e f g h a = a ∙ λ i. part (to_z-of_z w32 alo e i
 
 pub returns : goal.returns
 returns c =
-    let at-struct-told9 = c.before.before.before.before in
-    let d = at-struct-told9.before in
-    let at-struct-told5 = d.before.before.before.before in
-    let e = at-struct-told5.before in
-    let at-struct-told = e.before.before.before.before in
-    let s = at-struct-told.before in
+    let at_struct_told9 = c.before.before.before.before in
+    let d = at_struct_told9.before in
+    let at_struct_told5 = d.before.before.before.before in
+    let e = at_struct_told5.before in
+    let at_struct_told = e.before.before.before.before in
+    let s = at_struct_told.before in
     let a = fits_a s in
     let b = fits_b s in
     let x = axis a.xlo a.xhi b.xlo b.xhi e.spans_part.ensures in

@@ -16,22 +16,22 @@ read_line-line-requires c =
 
 pub returns-then-not-line : goal.returns-then-not-line
 returns-then-not-line c =
-    let at-read-line = c.before.before.before.before in
-    let at-loop = at-read-line.before.before.before in
-    let s = at-loop.before.before in
-    let l = at-loop.loop-row in
-    row_fault s.requires.right_count l.invariant.1 (omega arith) at-read-line.read_line-line.ensures (not-true _ c.if-not-line.true)
+    let at_read_line = c.before.before.before.before in
+    let at_loop = at_read_line.before.before.before in
+    let s = at_loop.before.before in
+    let l = at_loop.loop-row in
+    row_fault s.requires.right_count l.invariant.1 (omega arith) at_read_line.read_line-line.ensures (not-true _ c.if-not-line.true)
 
 pub loop-row-smaller : goal.loop-row-smaller
 loop-row-smaller c = omega arith
 
 pub loop-row-preserved : goal.loop-row-preserved
 loop-row-preserved c =
-    let at-read-line = c.before.before.before.before in
-    let at-loop = at-read-line.before.before.before in
-    let s = at-loop.before.before in
-    let l = at-loop.loop-row in
-    (omega arith, row_begun s.requires.right_count l.invariant.1 (omega arith) at-read-line.read_line-line.ensures (not-false _ c.if-not-line.false))
+    let at_read_line = c.before.before.before.before in
+    let at_loop = at_read_line.before.before.before in
+    let s = at_loop.before.before in
+    let l = at_loop.loop-row in
+    (omega arith, row_begun s.requires.right_count l.invariant.1 (omega arith) at_read_line.read_line-line.ensures (not-false _ c.if-not-line.false))
 
 pub overflow_add-result-then-at-text : goal.overflow_add-result-then-at-text
 overflow_add-result-then-at-text c = record { fits = omega (arith, c.requires.right_count.not_over) }

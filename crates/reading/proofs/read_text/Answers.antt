@@ -15,13 +15,13 @@ After-known_told2 = lts.Past-After-known_told2 tie.the-claims reads.Pre reads.Po
 
 -- the rows that the text spells
 rows_read : (k : After-known_told2) →
-    let at-read-form = k.before.before in
-    let s = at-read-form.before.before.before.before in
-    SpeltOut s.args.text.now at-read-form.read_form-form.new.table k.in-Spelt.rows
+    let at_read_form = k.before.before in
+    let s = at_read_form.before.before.before.before in
+    SpeltOut s.args.text.now at_read_form.read_form-form.new.table k.in-Spelt.rows
 rows_read k =
-    let at-read-form = k.before.before in
-    let s = at-read-form.before.before.before.before in
-    let form = at-read-form.read_form-form in
+    let at_read_form = k.before.before in
+    let s = at_read_form.before.before.before.before in
+    let form = at_read_form.read_form-form in
     subst (FormRead s.args.text.now form.new.table) k.in-Spelt.is form.ensures
 
 pub returns-then-text-gt-MOST_BYTES : goal.returns-then-text-gt-MOST_BYTES
@@ -38,17 +38,17 @@ slice_bounds-give-end c =
 
 pub returns-in-Faulty : goal.returns-in-Faulty
 returns-in-Faulty c =
-    let at-read-form = c.before.before.before in
-    let else1 = at-read-form.before.before in
+    let at_read_form = c.before.before.before in
+    let else1 = at_read_form.before.before in
     let s = else1.before.before in
-    let form = at-read-form.read_form-form in
+    let form = at_read_form.read_form-form in
     let fault = subst (FormRead s.args.text.now form.new.table) c.in-Faulty.is form.ensures in
     read_faulty s.args.table.now else1.if-text-gt-MOST_BYTES.false fault
 
 pub returns-in-Spelt : goal.returns-in-Spelt
 returns-in-Spelt c =
     let k = c.before.before.before.before.before in
-    let at-read-form = k.before.before in
-    let else1 = at-read-form.before.before in
+    let at_read_form = k.before.before in
+    let else1 = at_read_form.before.before in
     let s = else1.before.before in
     read_spelt s.args.table.now else1.if-text-gt-MOST_BYTES.false (rows_read k) c.give.ensures

@@ -34,9 +34,9 @@ blank_at-some-requires t c =
 pub returns-then-some : goal.returns-then-some
 returns-then-some t c =
     let at_left = c.before.before.before in
-    let at-kind = at_left.before.before.before in
-    let s = at-kind.before in
-    blank_by_left s.requires s.args.reach at-kind.kind-kind.ensures at_left.left.ensures c.blank_at-some.ensures c.if-kind-eq2.true c.if-some.true
+    let at_kind = at_left.before.before.before in
+    let s = at_kind.before in
+    blank_by_left s.requires s.args.reach at_kind.kind-kind.ensures at_left.left.ensures c.blank_at-some.ensures c.if-kind-eq2.true c.if-some.true
 
 pub overflow_add-row : goal.overflow_add-row
 overflow_add-row t c =
@@ -48,17 +48,17 @@ pub blank_at-requires : goal.blank_at-requires
 blank_at-requires t c =
     let else2 = c.before.before.before.before in
     let else1 = else2.before in
-    let at-kind = else1.before in
-    let s = at-kind.before in
-    asks_right s.requires s.decreases (inner_by s.requires at-kind.kind-kind.ensures else1.if-kind-eq0.false else2.if-kind-eq1.false)
+    let at_kind = else1.before in
+    let s = at_kind.before in
+    asks_right s.requires s.decreases (inner_by s.requires at_kind.kind-kind.ensures else1.if-kind-eq0.false else2.if-kind-eq1.false)
 
 pub returns-then-kind-eq2 : goal.returns-then-kind-eq2
 returns-then-kind-eq2 t c =
-    let at-blank-at = c.before.before.before in
-    let at_left = at-blank-at.before in
-    let at-kind = at_left.before.before.before in
-    let s = at-kind.before in
-    blank_by_right s.requires s.args.reach at-kind.kind-kind.ensures at_left.left.ensures at-blank-at.blank_at-some.ensures c.if-kind-eq2.true c.if-some.false c.blank_at.ensures
+    let at_blank_at = c.before.before.before in
+    let at_left = at_blank_at.before in
+    let at_kind = at_left.before.before.before in
+    let s = at_kind.before in
+    blank_by_right s.requires s.args.reach at_kind.kind-kind.ensures at_left.left.ensures at_blank_at.blank_at-some.ensures c.if-kind-eq2.true c.if-some.false c.blank_at.ensures
 
 pub overflow_add-row-then-some-2 : goal.overflow_add-row-then-some-2
 overflow_add-row-then-some-2 t c =
@@ -70,25 +70,25 @@ pub blank_at-requires-then-some-2 : goal.blank_at-requires-then-some-2
 blank_at-requires-then-some-2 t c =
     let else2 = c.before.before.before.before in
     let else1 = else2.before in
-    let at-kind = else1.before in
-    let s = at-kind.before in
-    asks_right s.requires s.decreases (inner_by s.requires at-kind.kind-kind.ensures else1.if-kind-eq0.false else2.if-kind-eq1.false)
+    let at_kind = else1.before in
+    let s = at_kind.before in
+    asks_right s.requires s.decreases (inner_by s.requires at_kind.kind-kind.ensures else1.if-kind-eq0.false else2.if-kind-eq1.false)
 
 pub returns-then-some-2 : goal.returns-then-some-2
 returns-then-some-2 t c =
-    let at-blank-at = c.before.before.before in
-    let at_left = at-blank-at.before in
+    let at_blank_at = c.before.before.before in
+    let at_left = at_blank_at.before in
     let else2 = at_left.before in
     let else1 = else2.before in
-    let at-kind = else1.before in
-    let s = at-kind.before in
-    blank_both_parts s.requires s.args.reach at-kind.kind-kind.ensures at_left.left.ensures at-blank-at.blank_at-some.ensures else1.if-kind-eq0.false else2.if-kind-eq1.false c.if-kind-eq2.false c.if-some-2.true c.blank_at-then-some-2.ensures
+    let at_kind = else1.before in
+    let s = at_kind.before in
+    blank_both_parts s.requires s.args.reach at_kind.kind-kind.ensures at_left.left.ensures at_blank_at.blank_at-some.ensures else1.if-kind-eq0.false else2.if-kind-eq1.false c.if-kind-eq2.false c.if-some-2.true c.blank_at-then-some-2.ensures
 
 pub returns : goal.returns
 returns t c =
     let at_left = c.before.before.before in
     let else2 = at_left.before in
     let else1 = else2.before in
-    let at-kind = else1.before in
-    let s = at-kind.before in
-    full_left s.requires s.args.reach at-kind.kind-kind.ensures at_left.left.ensures c.blank_at-some.ensures else1.if-kind-eq0.false else2.if-kind-eq1.false c.if-kind-eq2.false c.if-some-2.false
+    let at_kind = else1.before in
+    let s = at_kind.before in
+    full_left s.requires s.args.reach at_kind.kind-kind.ensures at_left.left.ensures c.blank_at-some.ensures else1.if-kind-eq0.false else2.if-kind-eq1.false c.if-kind-eq2.false c.if-some-2.false

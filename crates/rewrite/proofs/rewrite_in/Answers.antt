@@ -31,15 +31,15 @@ ways_of-ways-requires c = (sound c.before.before.before.before, c.number_rows-pr
 
 pub returns-then-ways-gt-MOST_WAYS : goal.returns-then-ways-gt-MOST_WAYS
 returns-then-ways-gt-MOST_WAYS c =
-    let at-number-rows = c.before.before.before.before in
+    let at_number_rows = c.before.before.before.before in
     let s = c.before.before.before.before.before.before in
-    by_ways s.args.table.now s.args.tree.now s.args.work.now s.requires (omega (arith, at-number-rows.number_rows-primitives.ensures.0, c.if-primitives-gt-MOST_REWRITTEN.false))
+    by_ways s.args.table.now s.args.tree.now s.args.work.now s.requires (omega (arith, at_number_rows.number_rows-primitives.ensures.0, c.if-primitives-gt-MOST_REWRITTEN.false))
     (c.ways_of-ways.ensures ∙ sym (expansion_ways s.args.table.now)) c.if-ways-gt-MOST_WAYS.true
 
 pub rewrite_for-requires : goal.rewrite_for-requires
 rewrite_for-requires c =
-    let at-number-rows = c.before.before.before.before.before.before in
+    let at_number_rows = c.before.before.before.before.before.before in
     let s = c.before.before.before.before.before.before.before.before in record {
       table_value = s.requires;
-      table_len_bound = (omega (arith, at-number-rows.number_rows-primitives.ensures.0, c.if-primitives-gt-MOST_REWRITTEN.false), omega (arith, c.ways_of-ways.ensures, expansion_ways s.args.table.now, c.if-ways-gt-MOST_WAYS.false));
+      table_len_bound = (omega (arith, at_number_rows.number_rows-primitives.ensures.0, c.if-primitives-gt-MOST_REWRITTEN.false), omega (arith, c.ways_of-ways.ensures, expansion_ways s.args.table.now, c.if-ways-gt-MOST_WAYS.false));
     }

@@ -7,12 +7,12 @@ use Rattle.rewrite.proofs.rewrite_tree.Goals as goal
 
 pub rewrite_in-requires : goal.rewrite_in-requires
 rewrite_in-requires c =
-    let at-check = c.before.before.before in
-    let s = at-check.before in
-    went_on (table_refusal s.args.table.now) (sym c.in-Sound.is ∙ at-check.check-checked.ensures)
+    let at_check = c.before.before.before in
+    let s = at_check.before in
+    went_on (table_refusal s.args.table.now) (sym c.in-Sound.is ∙ at_check.check-checked.ensures)
 
 pub returns-in-Refused : goal.returns-in-Refused
 returns-in-Refused c =
-    let at-check = c.before in
-    let s = at-check.before in
-    by_table s.args.table.now s.args.tree.now s.args.work.now (stopped (table_refusal s.args.table.now) (sym c.in-Refused.is ∙ at-check.check-checked.ensures))
+    let at_check = c.before in
+    let s = at_check.before in
+    by_table s.args.table.now s.args.tree.now s.args.work.now (stopped (table_refusal s.args.table.now) (sym c.in-Refused.is ∙ at_check.check-checked.ensures))

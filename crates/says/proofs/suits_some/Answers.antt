@@ -21,9 +21,9 @@ returns-then-suits c =
     let p = c.before.before.before in
     let l = p.before.before in
     let s = l.before.before.before in
-    let yes-there = sym (c.suits.ensures ∙ ap (suits s.args.set) p.product_at.ensures) ∙ c.if-suits.true in
+    let yes_there = sym (c.suits.ensures ∙ ap (suits s.args.set) p.product_at.ensures) ∙ c.if-suits.true in
     sym (ap (any_of (test s.args.list.now s.args.set)) (sym (rest_all (product_count s.args.list.now)))
-    ∙ l.loop-k.invariant.1 ∙ any_yes (test s.args.list.now s.args.set) l.loop-k.k (product_count s.args.list.now) p.loop-k-test.true yes-there)
+    ∙ l.loop-k.invariant.1 ∙ any_yes (test s.args.list.now s.args.set) l.loop-k.k (product_count s.args.list.now) p.loop-k-test.true yes_there)
 
 pub overflow_add-k : goal.overflow_add-k
 overflow_add-k c = omega arith

@@ -26,9 +26,9 @@ nonzero_rem-codes c = one_frame c.args.codes.now c.args.frames c.if-frames.false
 
 pub returns : goal.returns
 returns c =
-    let at-refuse-if = c.before.before in
-    let else1 = at-refuse-if.before in
+    let at_refuse_if = c.before.before in
+    let else1 = at_refuse_if.before in
     let codes = else1.args.codes.now in
     let frames = else1.args.frames in
-    let even = at-refuse-if.refuse_if.ensures ∙ ap checked_by (sym (count_right codes frames else1.if-frames.false)) in
+    let even = at_refuse_if.refuse_if.ensures ∙ ap checked_by (sym (count_right codes frames else1.if-frames.false)) in
     one_two (frames_refusal codes frames) (room_refusal (triple_words * frames) else1.args.room) even c.refuse_unless.ensures c.first_of.ensures

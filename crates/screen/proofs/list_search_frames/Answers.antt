@@ -7,17 +7,17 @@ use Rattle.screen.proofs.list_search_frames.Goals as goal
 
 pub search_frames-requires : goal.search_frames-requires
 search_frames-requires c =
-    let at-check-both = c.before.before.before in
-    let s = at-check-both.before.before.before in
+    let at_check_both = c.before.before.before in
+    let s = at_check_both.before.before.before in
     let t = s.args.table.now in
     let list = s.args.list.now in
-    accepted t list (went_on (accept_refusal t list) (sym c.in-Sound.is ∙ at-check-both.check_both-checked.ensures))
+    accepted t list (went_on (accept_refusal t list) (sym c.in-Sound.is ∙ at_check_both.check_both-checked.ensures))
 
 pub returns-in-Refused : goal.returns-in-Refused
 returns-in-Refused c =
-    let at-check-both = c.before.before in
-    let s = at-check-both.before.before.before in
+    let at_check_both = c.before.before in
+    let s = at_check_both.before.before.before in
     let t = s.args.table.now in
     let list = s.args.list.now in
     not_accepted t list s.args.codes.now s.args.frames s.args.place s.args.triples.now
-    (stopped (accept_refusal t list) (sym c.in-Refused.is ∙ at-check-both.check_both-checked.ensures))
+    (stopped (accept_refusal t list) (sym c.in-Refused.is ∙ at_check_both.check_both-checked.ensures))

@@ -58,10 +58,10 @@ returns-in-Hit c =
 pub returns-in-Refused : goal.returns-in-Refused
 returns-in-Refused c =
     let put = c.before.before.before in
-    let at-state = put.before.before in
-    let refused = at-state.before.before in
+    let at_state = put.before.before in
+    let refused = at_state.before.before in
     let s = refused.before.before in
     let value = refused.in-Refused.refusal.value in
     put.put_words-in-Refused.ensures
-    ∙ ap (λ (state : ℕ). sets s.args.triples.now s.args.at (state ∷ value ∷ 0 ∷ [])) at-state.refused_state.ensures
+    ∙ ap (λ (state : ℕ). sets s.args.triples.now s.args.at (state ∷ value ∷ 0 ∷ [])) at_state.refused_state.ensures
     ∙ words s refused.in-Refused.is

@@ -19,10 +19,10 @@ kept : (c : After-enum_told) →
     let s = c.before.before.before.before in
     shape_refusal s.args.codes.now s.args.frames (length s.args.triples.now) ≡ none
 kept c =
-    let at-check-screen = c.before in
-    let s = at-check-screen.before.before.before in
+    let at_check_screen = c.before in
+    let s = at_check_screen.before.before.before in
     went_on (shape_refusal s.args.codes.now s.args.frames (length s.args.triples.now))
-    (sym c.in-Sound.is ∙ at-check-screen.check_screen-checked.ensures)
+    (sym c.in-Sound.is ∙ at_check_screen.check_screen-checked.ensures)
 
 pub put_triples-requires : goal.put_triples-requires
 put_triples-requires c =
@@ -42,15 +42,15 @@ overflow_mul-result c =
 
 pub returns-in-Refused : goal.returns-in-Refused
 returns-in-Refused c =
-    let at-check-screen = c.before.before in
-    let s = at-check-screen.before.before.before in
+    let at_check_screen = c.before.before in
+    let s = at_check_screen.before.before.before in
     shape_wrong s.args.table.now s.args.list.now s.args.codes.now s.args.frames s.args.place s.args.triples.now s.requires
-    (stopped (shape_refusal s.args.codes.now s.args.frames (length s.args.triples.now)) (sym c.in-Refused.is ∙ at-check-screen.check_screen-checked.ensures))
+    (stopped (shape_refusal s.args.codes.now s.args.frames (length s.args.triples.now)) (sym c.in-Refused.is ∙ at_check_screen.check_screen-checked.ensures))
 
 pub returns-in-Sound : goal.returns-in-Sound
 returns-in-Sound c =
-    let at-put-triples = c.before.before.before in
-    let told = at-put-triples.before.before in
+    let at_put_triples = c.before.before.before in
+    let told = at_put_triples.before.before in
     let s = told.before.before.before.before in
     written s.args.table.now s.args.list.now s.args.codes.now s.args.frames s.args.place s.args.triples.now s.requires
-    (kept told) at-put-triples.put_triples.ensures
+    (kept told) at_put_triples.put_triples.ensures

@@ -46,28 +46,28 @@ bounds-sizes-row-in-Without c = omega (arith, few c.before.before.before)
 
 pub sum_sizes-requires : goal.sum_sizes-requires
 sum_sizes-requires c =
-    let at-read-step = c.before in
-    let s = at-read-step.before in
-    let N = as_step s.args.table.now s.args.row (plan_at s.args.table.now s.args.row true) at-read-step.read_step-step.ensures c.in-Either.is in let told = fits s _ _ _ _ true N.0 N.1 N.2 in
+    let at_read_step = c.before in
+    let s = at_read_step.before in
+    let N = as_step s.args.table.now s.args.row (plan_at s.args.table.now s.args.row true) at_read_step.read_step-step.ensures c.in-Either.is in let told = fits s _ _ _ _ true N.0 N.1 N.2 in
     record { left_bound = told.0; right_bound = told.1 }
 
 pub bounds-sizes-row-in-Either : goal.bounds-sizes-row-in-Either
 bounds-sizes-row-in-Either c =
-    let at-match3 = c.before.before in
-    let s = at-match3.before.before in
+    let at_match3 = c.before.before in
+    let s = at_match3.before.before in
     omega (arith, few s)
 
 pub sum_sizes-requires-in-Both : goal.sum_sizes-requires-in-Both
 sum_sizes-requires-in-Both c =
-    let at-read-step = c.before in
-    let s = at-read-step.before in
-    let N = as_step s.args.table.now s.args.row (plan_at s.args.table.now s.args.row true) at-read-step.read_step-step.ensures c.in-Both.is in let told = fits s _ _ _ _ false N.0 N.1 N.2 in
+    let at_read_step = c.before in
+    let s = at_read_step.before in
+    let N = as_step s.args.table.now s.args.row (plan_at s.args.table.now s.args.row true) at_read_step.read_step-step.ensures c.in-Both.is in let told = fits s _ _ _ _ false N.0 N.1 N.2 in
     record { left_bound = told.0; right_bound = told.1 }
 
 pub bounds-sizes-row-in-Both : goal.bounds-sizes-row-in-Both
 bounds-sizes-row-in-Both c =
-    let at-match4 = c.before.before in
-    let s = at-match4.before.before in
+    let at_match4 = c.before.before in
+    let s = at_match4.before.before in
     omega (arith, few s)
 
 pub returns-in-With : goal.returns-in-With
@@ -84,16 +84,16 @@ returns-in-Without c =
 
 pub returns-in-Either : goal.returns-in-Either
 returns-in-Either c =
-    let at-step = c.before.before in
-    let at-read-step = at-step.before in
-    let s = at-read-step.before in
-    let N = as_step s.args.table.now s.args.row (plan_at s.args.table.now s.args.row true) at-read-step.read_step-step.ensures at-step.in-Either.is in
+    let at_step = c.before.before in
+    let at_read_step = at_step.before in
+    let s = at_read_step.before in
+    let N = as_step s.args.table.now s.args.row (plan_at s.args.table.now s.args.row true) at_read_step.read_step-step.ensures at_step.in-Either.is in
     sized_more (few s) s.requires.sized_to (c.sum_sizes.ensures ∙ rows_pair true _ _ N.0 (s.requires.sized_to.each _ N.1 _) (s.requires.sized_to.each _ N.2 _))
 
 pub returns-in-Both : goal.returns-in-Both
 returns-in-Both c =
-    let at-step2 = c.before.before in
-    let at-read-step = at-step2.before in
-    let s = at-read-step.before in
-    let N = as_step s.args.table.now s.args.row (plan_at s.args.table.now s.args.row true) at-read-step.read_step-step.ensures at-step2.in-Both.is in
+    let at_step2 = c.before.before in
+    let at_read_step = at_step2.before in
+    let s = at_read_step.before in
+    let N = as_step s.args.table.now s.args.row (plan_at s.args.table.now s.args.row true) at_read_step.read_step-step.ensures at_step2.in-Both.is in
     sized_more (few s) s.requires.sized_to (c.sum_sizes-in-Both.ensures ∙ rows_pair false _ _ N.0 (s.requires.sized_to.each _ N.1 _) (s.requires.sized_to.each _ N.2 _))

@@ -50,8 +50,8 @@ overflow_sub-result-in-Drum c = let d = c.before.before.before.before.before in 
 
 pub overflow_add-result-in-Drum : goal.overflow_add-result-in-Drum
 overflow_add-result-in-Drum c =
-    let at-struct-known3 = c.before.before.before.before in
-    let d = at-struct-known3.before.before.before in
+    let at_struct_known3 = c.before.before.before.before in
+    let d = at_struct_known3.before.before.before in
     add_fits (cy d) (ry d) tt
 
 pub returns-in-Box : goal.returns-in-Box

@@ -1,7 +1,6 @@
 use mathlib.Core.Bool.{◌&&◌}
 use mathlib.Core.Path.{◌≡◌, sym, ◌∙◌}
 use borrow.Author.Rules.{rules}
-use borrow.Author.Tests.{not-true, not-false}
 use lib.Signed.{le_z}
 use mir.Syntax.{w32}
 use mir.Val.{SFits, to_z, of_z}
@@ -42,18 +41,18 @@ framed s = let f = fits s in within_read f.zlo f.zhi f.z
 
 pub returns-then-not-framed : goal.returns-then-not-framed
 returns-then-not-framed c =
-    let at-struct-known3 = c.before.before.before.before in
-    let at-struct-known = at-struct-known3.before.before.before.before in
-    let s = at-struct-known.before in
+    let at_struct_known3 = c.before.before.before.before in
+    let at_struct_known = at_struct_known3.before.before.before.before in
+    let s = at_struct_known.before in
     let d = s.args.d in
-    and_no (within (record { lo = d.zlo; hi = d.zhi }) s.args.p.z) _ (sym (framed s) ∙ not-true _ c.if-not-framed.true-raw)
+    and_no (within (record { lo = d.zlo; hi = d.zhi }) s.args.p.z) _ (sym (framed s) ∙ c.if-not-framed.true)
 
 pub in_ellipse-requires : goal.in_ellipse-requires
 in_ellipse-requires c =
-    let at-struct-told6 = c.before.before.before.before.before in
-    let at-struct-known4 = at-struct-told6.before.before.before.before in
-    let at-struct-known2 = at-struct-known4.before.before.before.before in
-    let s = at-struct-known2.before.before.before in
+    let at_struct_told6 = c.before.before.before.before.before in
+    let at_struct_known4 = at_struct_told6.before.before.before.before in
+    let at_struct_known2 = at_struct_known4.before.before.before.before in
+    let s = at_struct_known2.before.before.before in
     let d = s.args.d in
     let p = s.args.p in
     let f = fits s in
@@ -66,14 +65,14 @@ in_ellipse-requires c =
 
 pub returns : goal.returns
 returns c =
-    let at-struct-told7 = c.before.before.before.before in
-    let e = at-struct-told7.before.before.before in
-    let at-struct-known3 = e.before.before.before.before in
-    let at-struct-known = at-struct-known3.before.before.before.before in
-    let s = at-struct-known.before in
+    let at_struct_told7 = c.before.before.before.before in
+    let e = at_struct_told7.before.before.before in
+    let at_struct_known3 = e.before.before.before.before in
+    let at_struct_known = at_struct_known3.before.before.before.before in
+    let s = at_struct_known.before in
     let d = s.args.d in
     let p = s.args.p in
     let f = fits s in
     c.in_ellipse.ensures
     ∙ (λ i. in_ellipse (to_z-of_z w32 d.cx f.cx i) (to_z-of_z w32 d.cy f.cy i) (to_z-of_z w32 d.rx f.rx i) (to_z-of_z w32 d.ry f.ry i) (to_z-of_z w32 p.x f.x i) (to_z-of_z w32 p.y f.y i))
-    ∙ and_yes (within (record { lo = d.zlo; hi = d.zhi }) p.z) _ (sym (framed s) ∙ not-false _ e.if-not-framed.false-raw)
+    ∙ and_yes (within (record { lo = d.zlo; hi = d.zhi }) p.z) _ (sym (framed s) ∙ e.if-not-framed.false)

@@ -1,7 +1,6 @@
 use mathlib.Core.Bool.{◌&&◌}
 use mathlib.Core.Path.{◌≡◌, sym, ◌∙◌}
 use borrow.Author.Rules.{rules}
-use borrow.Author.Tests.{not-true, not-false}
 use lib.Signed.{le_z}
 use mir.Syntax.{w32}
 use mir.Val.{SFits, to_z, of_z}
@@ -38,11 +37,11 @@ framed s = let f = fits s in within_read f.zlo f.zhi f.z
 
 pub returns-then-not-framed : goal.returns-then-not-framed
 returns-then-not-framed c =
-    let at-struct-known3 = c.before.before.before.before in
-    let at-struct-known = at-struct-known3.before.before.before.before in
-    let s = at-struct-known.before in
+    let at_struct_known3 = c.before.before.before.before in
+    let at_struct_known = at_struct_known3.before.before.before.before in
+    let s = at_struct_known.before in
     let t = s.args.t in
-    and_no (within (record { lo = t.zlo; hi = t.zhi }) s.args.p.z) _ (sym (framed s) ∙ not-true _ c.if-not-framed.true-raw)
+    and_no (within (record { lo = t.zlo; hi = t.zhi }) s.args.p.z) _ (sym (framed s) ∙ c.if-not-framed.true)
 
 pub in_corners-requires : goal.in_corners-requires
 in_corners-requires c =
@@ -61,4 +60,4 @@ returns c =
     let x = to_z-of_z w32 p.x (fits s).x in
     let y = to_z-of_z w32 p.y (fits s).y in
     c.in_corners.ensures ∙ (λ i. one_sided (side t.first t.second (x i) (y i)) (side t.second t.third (x i) (y i)) (side t.third t.first (x i) (y i)))
-    ∙ and_yes (within (record { lo = t.zlo; hi = t.zhi }) p.z) _ (sym (framed s) ∙ not-false _ e.if-not-framed.false-raw)
+    ∙ and_yes (within (record { lo = t.zlo; hi = t.zhi }) p.z) _ (sym (framed s) ∙ e.if-not-framed.false)

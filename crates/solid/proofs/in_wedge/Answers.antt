@@ -1,6 +1,5 @@
 use mathlib.Core.Path.{◌≡◌, sym, ◌∙◌}
 use borrow.Author.Rules.{rules}
-use borrow.Author.Tests.{not-true, not-false}
 use Rattle.ground.proofs.Branches.{and_yes, and_no}
 use Rattle.rules.specs.Boxes.{holds}
 use Rattle.rules.specs.Inside.{bounds, half_space}
@@ -19,7 +18,7 @@ fits s = record { a = search rules; b = search rules; c = search rules; d = sear
 pub returns-then-not-in_box : goal.returns-then-not-in_box
 returns-then-not-in_box c =
     let s = c.before.before.before in
-    and_no (holds (bounds s.args.w.bounds) s.args.p) _ (sym c.in_box.ensures ∙ not-true _ c.if-not-in_box.true-raw)
+    and_no (holds (bounds s.args.w.bounds) s.args.p) _ (sym c.in_box.ensures ∙ c.if-not-in_box.true)
 
 pub half_space-requires : goal.half_space-requires
 half_space-requires c =
@@ -28,9 +27,9 @@ half_space-requires c =
 
 pub returns : goal.returns
 returns c =
-    let at-struct-told4 = c.before.before.before.before in
-    let e = at-struct-told4.before.before.before.before in
-    let at-in-box = e.before in
-    let s = at-in-box.before.before in
+    let at_struct_told4 = c.before.before.before.before in
+    let e = at_struct_told4.before.before.before.before in
+    let at_in_box = e.before in
+    let s = at_in_box.before.before in
     told_of (fits s) (λ a b c' d x y z. c.half_space.result ≡ half_space a b c' d x y z) c.half_space.ensures
-    ∙ and_yes (holds (bounds s.args.w.bounds) s.args.p) _ (sym at-in-box.in_box.ensures ∙ not-false _ e.if-not-in_box.false-raw)
+    ∙ and_yes (holds (bounds s.args.w.bounds) s.args.p) _ (sym at_in_box.in_box.ensures ∙ e.if-not-in_box.false)

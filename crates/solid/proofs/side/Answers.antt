@@ -73,7 +73,7 @@ module _ (s : Start) where
   by = wide_apart fits.by b_y s.ranges.y s.requires.x_value.1
 
 abbrev start : After-struct_told4 → Start
-start c = let at-struct-told3 = c.before.before in at-struct-told3.before.before.before.before.before.before
+start c = let at_struct_told3 = c.before.before in at_struct_told3.before.before.before.before.before.before
 
 pub overflow_mul-result : goal.overflow_mul-result
 overflow_mul-result c = let s = c.before.before.before.before.before in mul_fits (ax s) (by s) tt

@@ -43,8 +43,8 @@ returns c =
     let ylo = yhi.before.before.before.before in
     let xhi = ylo.before.before.before.before in
     let xlo = xhi.before.before.before.before in
-    let at-known3 = xlo.before.before.before.before in
-    let s = at-known3.before.before.before in
+    let at_known3 = xlo.before.before.before.before in
+    let s = at_known3.before.before.before in
     let f = fits s in
     λ i. record {
       x = record {

@@ -39,9 +39,9 @@ overflow_add-result c = let s = c.before.before.before.before.before.before.befo
 
 pub returns : goal.returns
 returns c =
-    let at-struct-told6 = c.before.before.before.before in
-    let at-struct-told3 = at-struct-told6.before.before.before.before.before.before in
-    let s = at-struct-told3.before.before.before.before.before.before in
+    let at_struct_told6 = c.before.before.before.before in
+    let at_struct_told3 = at_struct_told6.before.before.before.before.before.before in
+    let s = at_struct_told3.before.before.before.before.before.before in
     let f = fits s in
     let low = (sub_num (cx s) (rx s) tt).reads in
     let high = (add_num (cx s) (rx s) tt).reads in

@@ -35,10 +35,10 @@ across a b c x =
 
 pub returns : goal.returns
 returns c =
-    let at-struct-told9 = c.before.before.before.before in
-    let at-struct-told6 = at-struct-told9.before.before.before.before.before.before in
-    let at-struct-told3 = at-struct-told6.before.before.before.before.before.before in
-    let at_c = at-struct-told3.before.before.before.before.before in
+    let at_struct_told9 = c.before.before.before.before in
+    let at_struct_told6 = at_struct_told9.before.before.before.before.before.before in
+    let at_struct_told3 = at_struct_told6.before.before.before.before.before.before in
+    let at_c = at_struct_told3.before.before.before.before.before in
     let s = at_c.before.before.before in
     let t = s.args.t in
     let p = s.args.p in

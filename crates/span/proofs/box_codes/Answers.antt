@@ -1,6 +1,5 @@
 use mathlib.Core.Path.{sym, ◌∙◌}
 use borrow.Author.Rules.{rules}
-use borrow.Author.Tests.{not-true, not-false}
 use mir.Syntax.{w32}
 use mir.Val.{SFits}
 use Rattle.ground.proofs.Signed.{reread}
@@ -27,7 +26,7 @@ fits s = record { lo = search rules; hi = search rules }
 pub returns-then-not-beside_box : goal.returns-then-not-beside_box
 returns-then-not-beside_box c =
     let t = c.before.before in
-    out_of_reach (primitive.Box t.args.b) t.args.p t.requires (sym t.beside_box.ensures ∙ not-true _ c.if-not-beside_box.true-raw) c.nothing.ensures
+    out_of_reach (primitive.Box t.args.b) t.args.p t.requires (sym t.beside_box.ensures ∙ c.if-not-beside_box.true) c.nothing.ensures
 
 pub axis-requires : goal.axis-requires
 axis-requires c =
@@ -41,4 +40,4 @@ returns c =
     let e = c.before.before.before in
     let t = e.before in
     let s = t.before in
-    box_meets s.args.b s.args.p (sym t.beside_box.ensures ∙ not-false _ e.if-not-beside_box.false-raw) (axis_passed (fits s).lo (fits s).hi c.axis.ensures)
+    box_meets s.args.b s.args.p (sym t.beside_box.ensures ∙ e.if-not-beside_box.false) (axis_passed (fits s).lo (fits s).hi c.axis.ensures)

@@ -1,7 +1,6 @@
 use mathlib.Core.Bool.{true}
 use mathlib.Core.Path.{◌≡◌, sym, ◌∙◌}
 use borrow.Author.Rules.{rules}
-use borrow.Author.Tests.{not-true, not-false}
 use lib.IntN.{◌+ℤ◌, ◌-ℤ◌}
 use mir.Syntax.{w32}
 use mir.Val.{SFits}
@@ -42,7 +41,7 @@ pub returns-then-not-beside_drum : goal.returns-then-not-beside_drum
 returns-then-not-beside_drum c =
     let t = c.before.before in
     let s = t.before in
-    out_of_reach (primitive.Drum s.args.d) s.args.p s.requires.d_value (sym t.beside_drum.ensures ∙ not-true _ c.if-not-beside_drum.true-raw) c.nothing.ensures
+    out_of_reach (primitive.Drum s.args.d) s.args.p s.requires.d_value (sym t.beside_drum.ensures ∙ c.if-not-beside_drum.true) c.nothing.ensures
 
 -- in reach: of its columns, and of its frames
 module _ (e : Else1) where
@@ -50,7 +49,7 @@ module _ (e : Else1) where
   s = e.before.before
 
   met : beside (box_of (primitive.Drum s.args.d)) s.args.p ≡ true
-  met = sym e.beside_drum.ensures ∙ not-false _ e.if-not-beside_drum.false-raw
+  met = sym e.beside_drum.ensures ∙ e.if-not-beside_drum.false
 
 pub ellipse-requires : goal.ellipse-requires
 ellipse-requires c =

@@ -1,7 +1,6 @@
 use mathlib.Core.Bool.{true}
 use mathlib.Core.Path.{◌≡◌, sym, subst, ◌∙◌}
 use borrow.Author.Rules.{rules}
-use borrow.Author.Tests.{not-true, not-false}
 use lib.IntN.{ℤ, pos}
 use lib.Signed.{lt_z}
 use mathlib.Core.Bool.{false}
@@ -69,7 +68,7 @@ pub returns-then-not-beside_triangle : goal.returns-then-not-beside_triangle
 returns-then-not-beside_triangle c =
     let t = c.before.before in
     let s = t.before in
-    out_of_reach (primitive.Triangle s.args.t) s.args.p s.requires.t_value (sym t.beside_triangle.ensures ∙ not-true _ c.if-not-beside_triangle.true-raw) c.nothing.ensures
+    out_of_reach (primitive.Triangle s.args.t) s.args.p s.requires.t_value (sym t.beside_triangle.ensures ∙ c.if-not-beside_triangle.true) c.nothing.ensures
 
 -- where the column and the frame are in reach; the places on the way there
 abbrev in_reach : After-struct_told2 → Else1
@@ -101,7 +100,7 @@ module _ (c : After-side) where
   framed =
       let t = (start at).args.t in
       let p = (start at).args.p in
-      and_right (within (around t.first.x t.second.x t.third.x) p.x) (within (record { lo = t.zlo; hi = t.zhi }) p.z) (sym at.beside_triangle.ensures ∙ not-false _ at.if-not-beside_triangle.false-raw)
+      and_right (within (around t.first.x t.second.x t.third.x) p.x) (within (record { lo = t.zlo; hi = t.zhi }) p.z) (sym at.beside_triangle.ensures ∙ at.if-not-beside_triangle.false)
 
 pub edges-requires : goal.edges-requires
 edges-requires c = let s = start (in_reach c.before.before.before.before) in let a = first s in let b = second s in let d = third s in let x = column s in record { a_value = search; x_value = search }

@@ -1,6 +1,5 @@
 use mathlib.Core.Path.{sym, ◌∙◌}
 use borrow.Author.Rules.{rules}
-use borrow.Author.Tests.{not-true, not-false}
 use Rattle.rules.specs.declared.Primitive.TheVariants as primitive
 use Rattle.laws.proofs.Ranges.{framed, x_in, z_in, box_codes_in, bounds_right, a_in, b_in, c_in}
 use Rattle.span.proofs.Shapes.{out_of_reach, wedge_meets}
@@ -35,7 +34,7 @@ pub returns-then-not-beside_box : goal.returns-then-not-beside_box
 returns-then-not-beside_box c =
     let t = c.before.before in
     let s = t.before.before in
-    out_of_reach (primitive.Wedge s.args.w) s.args.p s.requires.w_value (sym t.beside_box.ensures ∙ not-true _ c.if-not-beside_box.true-raw) c.nothing.ensures
+    out_of_reach (primitive.Wedge s.args.w) s.args.p s.requires.w_value (sym t.beside_box.ensures ∙ c.if-not-beside_box.true) c.nothing.ensures
 
 -- where the wedge is in reach
 abbrev in_reach : After-struct_told8 → Else1
@@ -54,4 +53,4 @@ pub returns : goal.returns
 returns c =
     let e = in_reach c.before in
     let s = e.before.before.before in
-    wedge_meets s.args.w s.args.p (sym e.beside_box.ensures ∙ not-false _ e.if-not-beside_box.false-raw) (given (fits s) c.sloped.ensures)
+    wedge_meets s.args.w s.args.p (sym e.beside_box.ensures ∙ e.if-not-beside_box.false) (given (fits s) c.sloped.ensures)

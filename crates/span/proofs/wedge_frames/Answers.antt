@@ -1,6 +1,5 @@
 use mathlib.Core.Path.{sym, ◌∙◌}
 use borrow.Author.Rules.{rules}
-use borrow.Author.Tests.{not-true, not-false}
 use Rattle.rules.specs.Ranges.{frames}
 use Rattle.laws.proofs.Ranges.{framed, x_in, y_in, ends_in, frames_of_box, bounds_right, a_in, b_in, c_in}
 use Rattle.span.proofs.Frames.{wedge_frames_meet, wedge_frames_miss}
@@ -35,7 +34,7 @@ pub returns-then-not-over_box : goal.returns-then-not-over_box
 returns-then-not-over_box c =
     let t = c.before.before in
     let s = t.before.before in
-    wedge_frames_miss s.args.w s.args.p (sym t.over_box.ensures ∙ not-true _ c.if-not-over_box.true-raw) c.nothing.ensures
+    wedge_frames_miss s.args.w s.args.p (sym t.over_box.ensures ∙ c.if-not-over_box.true) c.nothing.ensures
 
 -- where the wedge is in reach
 abbrev in_reach : After-struct_told8 → Else1
@@ -54,4 +53,4 @@ pub returns : goal.returns
 returns c =
     let e = in_reach c.before in
     let s = e.before.before.before in
-    wedge_frames_meet s.args.w s.args.p (sym e.over_box.ensures ∙ not-false _ e.if-not-over_box.false-raw) (given (fits s) c.sloped.ensures)
+    wedge_frames_meet s.args.w s.args.p (sym e.over_box.ensures ∙ e.if-not-over_box.false) (given (fits s) c.sloped.ensures)

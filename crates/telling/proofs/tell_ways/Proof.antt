@@ -20,14 +20,14 @@ number_rows_requires c κs = search rules
 
 ways_requires : tie.Need-ways-requires invariant-loop decreases-loop
 ways_requires c κs =
-    let at-number-rows = c.before.before in
-    let s = at-number-rows.before.before.before in
-    (s.requires.0, (at-number-rows.number-rows.ensures.1, nothing_remembered s.args.table.now))
+    let at_number_rows = c.before.before in
+    let s = at_number_rows.before.before.before in
+    (s.requires.0, (at_number_rows.number-rows.ensures.1, nothing_remembered s.args.table.now))
 
 loop_holds : tie.Need-loop-init invariant-loop decreases-loop
 loop_holds c =
-    let at-number-rows = c.before.before.before in
-    let s = at-number-rows.before.before.before in
+    let at_number_rows = c.before.before.before in
+    let s = at_number_rows.before.before.before in
     (c.ways.ensures.1, nothing_told s.requires.1.0 s.requires.1.1 (length-replicate {A = ℕ} 65536 0))
 
 tell_way_requires : tie.Need-tell-way-requires invariant-loop decreases-loop

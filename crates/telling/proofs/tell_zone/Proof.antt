@@ -29,8 +29,8 @@ slice_aggregate_tell_table c = sym (length-take-le _ _ (array_share_prefix_table
 
 tell_table_requires : tie.Need-tell-table-requires
 tell_table_requires c κs =
-    let at-table2 = c.before.before.before.before in
-    read_sound (subst (TextRead _ _ _) c.before.before.read2.given.1 at-table2.before.read_text.ensures)
+    let at_table2 = c.before.before.before.before in
+    read_sound (subst (TextRead _ _ _) c.before.before.read2.given.1 at_table2.before.read_text.ensures)
 
 returns : tie.Need-returns
 returns c = search rules

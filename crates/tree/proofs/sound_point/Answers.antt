@@ -32,9 +32,9 @@ inside_at-requires c =
 
 pub returns-in-Refused : goal.returns-in-Refused
 returns-in-Refused c =
-    let at-check-point = c.before in
-    let s = at-check-point.before.before in
-    point_out s.args.table.now s.args.p s.requires (stopped (point_refusal everywhere s.args.p) (sym c.in-Refused.is ∙ placed at-check-point))
+    let at_check_point = c.before in
+    let s = at_check_point.before.before in
+    point_out s.args.table.now s.args.p s.requires (stopped (point_refusal everywhere s.args.p) (sym c.in-Refused.is ∙ placed at_check_point))
 
 pub returns-then-inside_at : goal.returns-then-inside_at
 returns-then-inside_at c =

@@ -35,20 +35,20 @@ coordinates s = record { x = search rules; y = search rules; z = search rules }
 pub returns : goal.returns
 returns c =
     let x = c.before in
-    let at-between3 = x.before in
-    let codes = at-between3.before.before.before.before in
+    let at_between3 = x.before in
+    let codes = at_between3.before.before.before.before in
     let y = codes.before in
-    let at-between2 = y.before in
-    let z = at-between2.before.before.before.before in
-    let at-between = z.before in
-    let s = at-between.before.before.before.before in
+    let at_between2 = y.before in
+    let z = at_between2.before.before.before.before in
+    let at_between = z.before in
+    let s = at_between.before.before.before.before in
     let E = ends s in
     let F = coordinates s in
     let box = window_box s.args.w in
     let p = s.args.p in
     let rule : Span → ℤ → ℕ → Option Refusal = λ span v i. refuse_unless (within span v) 10 i in
-    let column = ruled box.x p.x 0 x.refuse_unless-2.ensures (at-between3.between-3.ensures ∙ axis E.xlo F.x E.xhi) in
-    let code = ruled box.y p.y 1 y.refuse_unless.ensures (at-between2.between-2.ensures ∙ axis E.ylo F.y E.yhi) in
-    let frame = ruled box.z p.z 2 z.refuse_unless-frame.ensures (at-between.between.ensures ∙ axis E.zlo F.z E.zhi) in
+    let column = ruled box.x p.x 0 x.refuse_unless-2.ensures (at_between3.between-3.ensures ∙ axis E.xlo F.x E.xhi) in
+    let code = ruled box.y p.y 1 y.refuse_unless.ensures (at_between2.between-2.ensures ∙ axis E.ylo F.y E.yhi) in
+    let frame = ruled box.z p.z 2 z.refuse_unless-frame.ensures (at_between.between.ensures ∙ axis E.zlo F.z E.zhi) in
     in_turn (rule box.x p.x 0 ∷ []) (rule box.y p.y 1 ∷ rule box.z p.z 2 ∷ []) (alone (rule box.x p.x 0) column)
     (one_two (rule box.y p.y 1) (rule box.z p.z 2) code frame codes.first_of-code.ensures) c.first_of.ensures

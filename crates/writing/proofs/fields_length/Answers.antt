@@ -33,11 +33,11 @@ more : (c : After-number_length) → let s = c.args in
     let l = c.loop-k in
     l.size + (1 + c.number_length.result) ≡ length (fields_to s.table.now s.row (l.k + 1))
 more c =
-    let at-loop = c.before.before.before in
-    let s = at-loop.before.before in
+    let at_loop = c.before.before.before in
+    let s = at_loop.before.before in
     let t = s.args.table.now in
     let row = s.args.row in
-    let l = at-loop.loop-k in
+    let l = at_loop.loop-k in
     let word = read w32 c.word.type_inv c.word.ensures in
     let size = c.number_length.ensures ∙ ap (λ (v : ℤ). length (number_text v)) word in
     let fields = longer (fields_to t row) (λ k. field_text (word_at t row (k + 1))) (fields_grow t row) l.k in
@@ -55,11 +55,11 @@ word-requires c = omega (arith, few c.before, c.requires.whole)
 
 pub overflow_add-size-in-loop-k : goal.overflow_add-size-in-loop-k
 overflow_add-size-in-loop-k c =
-    let at-loop = c.before.before.before in
-    let s = at-loop.before.before in
+    let at_loop = c.before.before.before in
+    let s = at_loop.before.before in
     let s = s.args in
-    let l = at-loop.loop-k in
-    omega (arith, few at-loop, more c, fields_few s.table.now s.row (l.k + 1))
+    let l = at_loop.loop-k in
+    omega (arith, few at_loop, more c, fields_few s.table.now s.row (l.k + 1))
 
 pub overflow_add-k-in-loop-k : goal.overflow_add-k-in-loop-k
 overflow_add-k-in-loop-k c = omega (arith, few c.before.before.before)

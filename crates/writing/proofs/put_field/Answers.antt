@@ -14,7 +14,7 @@ put_number-requires c =
 
 pub returns : goal.returns
 returns c =
-    let at-put-number = c.before.before.before in
-    let s = at-put-number.before.before.before in
+    let at_put_number = c.before.before.before in
+    let s = at_put_number.before.before.before in
     let same = to_z-of_z w32 s.args.v s.ranges.v in
-    put_join (put_one tab s.args.text.now s.args.at) (rw same at at-put-number.put_number.ensures)
+    put_join (put_one tab s.args.text.now s.args.at) (rw same at at_put_number.put_number.ensures)

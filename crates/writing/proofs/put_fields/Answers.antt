@@ -48,15 +48,15 @@ overflow_add-k c = omega (arith, few c.before.before)
 
 pub word-requires : goal.word-requires
 word-requires c =
-    let at-named-words = c.before.before.before in
-    omega (arith, few c.before.before, at-named-words.requires.in_table.whole)
+    let at_named_words = c.before.before.before in
+    omega (arith, few c.before.before, at_named_words.requires.in_table.whole)
 
 pub put_field-next-requires : goal.put_field-next-requires
 put_field-next-requires c =
     let m = c.before.before.before in
-    let at-named-words = m.before in
-    let s = at-named-words.before.before in
-    let words = at-named-words.named_words-words in
+    let at_named_words = m.before in
+    let s = at_named_words.before.before in
+    let words = at_named_words.named_words-words in
     let t = s.args.table.now in
     let row = s.args.row in
     let all = ap (λ (n : ℕ). length (fields_to t row n)) words.ensures in
@@ -65,20 +65,20 @@ put_field-next-requires c =
 
 pub overflow_add-k-in-loop-k : goal.overflow_add-k-in-loop-k
 overflow_add-k-in-loop-k c =
-    let at-word = c.before.before.before.before in
-    let at-loop = at-word.before.before.before in
-    omega (arith, few at-loop)
+    let at_word = c.before.before.before.before in
+    let at_loop = at_word.before.before.before in
+    omega (arith, few at_loop)
 
 pub loop-k-smaller : goal.loop-k-smaller
 loop-k-smaller c = omega arith
 
 pub loop-k-preserved : goal.loop-k-preserved
 loop-k-preserved c =
-    let at-word = c.before.before.before.before in
-    let m = at-word.before.before.before in
+    let at_word = c.before.before.before.before in
+    let m = at_word.before.before.before in
     let s = m.before.before.before in
     let s = s.args in
-    let put = put_same (sym (field_read at-word)) c.put_field-next.ensures in
+    let put = put_same (sym (field_read at_word)) c.put_field-next.ensures in
     (omega arith, put_next (fields_to s.table.now s.row) (field m) (fields_grow s.table.now s.row) m.loop-k.k m.loop-k.invariant.1 put)
 
 pub returns : goal.returns

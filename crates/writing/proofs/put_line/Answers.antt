@@ -10,27 +10,27 @@ put_name-name-requires c =
 
 pub put_fields-fields-requires : goal.put_fields-fields-requires
 put_fields-fields-requires c =
-    let at-put-name = c.before.before.before in
-    let s = at-put-name.before.before.before in
+    let at_put_name = c.before.before.before in
+    let s = at_put_name.before.before.before in
     let size = line_size s.args.table.now s.args.row s.args.kind in
-    let name = at-put-name.put_name-name.ensures in record { in_table = s.requires.in_table; kind_in_bounds = omega (arith, s.requires.kind_in_bounds, name.end, put_size name) }
+    let name = at_put_name.put_name-name.ensures in record { in_table = s.requires.in_table; kind_in_bounds = omega (arith, s.requires.kind_in_bounds, name.end, put_size name) }
 
 pub put_bytes-requires : goal.put_bytes-requires
 put_bytes-requires c =
-    let at-put-fields = c.before.before.before.before.before in
-    let at-put-name = at-put-fields.before.before.before.before in
-    let s = at-put-name.before.before.before in
+    let at_put_fields = c.before.before.before.before.before in
+    let at_put_name = at_put_fields.before.before.before.before in
+    let s = at_put_name.before.before.before in
     let size = line_size s.args.table.now s.args.row s.args.kind in
-    let name = at-put-name.put_name-name.ensures in
-    let fields = at-put-fields.put_fields-fields.ensures in
+    let name = at_put_name.put_name-name.ensures in
+    let fields = at_put_fields.put_fields-fields.ensures in
     omega (arith, s.requires.kind_in_bounds, name.end, put_size name, fields.end, put_size fields)
 
 pub returns : goal.returns
 returns c =
-    let at-put-bytes = c.before.before.before in
-    let at-text2 = at-put-bytes.before.before.before.before.before in
-    let at-put-fields = at-text2.before in
-    let at-put-name = at-put-fields.before.before.before.before in
-    let name = at-put-name.put_name-name.ensures in
-    let fields = at-put-fields.put_fields-fields.ensures in
-    put_join name (put_join fields at-put-bytes.put_bytes.ensures)
+    let at_put_bytes = c.before.before.before in
+    let at_text2 = at_put_bytes.before.before.before.before.before in
+    let at_put_fields = at_text2.before in
+    let at_put_name = at_put_fields.before.before.before.before in
+    let name = at_put_name.put_name-name.ensures in
+    let fields = at_put_fields.put_fields-fields.ensures in
+    put_join name (put_join fields at_put_bytes.put_bytes.ensures)

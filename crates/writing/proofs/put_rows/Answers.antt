@@ -30,11 +30,11 @@ loop-row-smaller c = omega arith
 
 pub loop-row-preserved : goal.loop-row-preserved
 loop-row-preserved c =
-    let at-put-row = c.before.before.before in
-    let at-loop = at-put-row.before.before.before in
-    let t = at-loop.args.table.now in
-    let l = at-loop.loop-row in
-    (omega arith, put_next (lines_to t) (line_at t) (lines_grow t) l.row l.invariant.1 at-put-row.put_row-next.ensures)
+    let at_put_row = c.before.before.before in
+    let at_loop = at_put_row.before.before.before in
+    let t = at_loop.args.table.now in
+    let l = at_loop.loop-row in
+    (omega arith, put_next (lines_to t) (line_at t) (lines_grow t) l.row l.invariant.1 at_put_row.put_row-next.ensures)
 
 pub returns : goal.returns
 returns c =

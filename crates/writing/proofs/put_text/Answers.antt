@@ -15,17 +15,17 @@ put_header-header-requires c =
 
 pub put_rows-requires : goal.put_rows-requires
 put_rows-requires c =
-    let at-put-header = c.before.before.before in
-    let s = at-put-header.before.before.before in
-    let header = at-put-header.put_header-header.ensures in record {
+    let at_put_header = c.before.before.before in
+    let s = at_put_header.before.before.before in
+    let header = at_put_header.put_header-header.ensures in record {
       table_value = (s.requires.table_value, refl);
       rows_in_bounds = omega (arith, s.requires.table_in_bounds, text_size s.args.table.now s.requires.table_value, header.end, put_size header);
     }
 
 pub returns : goal.returns
 returns c =
-    let at-put-rows = c.before.before.before in
-    let at-put-header = at-put-rows.before.before.before.before in
-    let s = at-put-header.before.before.before in
-    let header = at-put-header.put_header-header.ensures in
-    put_same (text_parts s.args.table.now s.requires.table_value) (put_join header at-put-rows.put_rows.ensures)
+    let at_put_rows = c.before.before.before in
+    let at_put_header = at_put_rows.before.before.before.before in
+    let s = at_put_header.before.before.before in
+    let header = at_put_header.put_header-header.ensures in
+    put_same (text_parts s.args.table.now s.requires.table_value) (put_join header at_put_rows.put_rows.ensures)

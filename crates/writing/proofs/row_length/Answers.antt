@@ -37,12 +37,12 @@ returns-in-Unknown c =
 pub returns-in-Known : goal.returns-in-Known
 returns-in-Known c =
     let at_named = c.before.before in
-    let at-kind-of = at_named.before in
-    let at-word = at-kind-of.before in
-    let s = at-word.before in
+    let at_kind_of = at_named.before in
+    let at_word = at_kind_of.before in
+    let s = at_word.before in
     let s = s.args in
-    let word = at-word.word in
-    let kind = at-kind-of.kind_of-named in
+    let word = at_word.word in
+    let kind = at_kind_of.kind_of-named in
     let line = line_known s.table.now s.row word.type_inv word.ensures kind.ensures at_named.in-Known.is in
     let size = line_size s.table.now s.row at_named.in-Known.kind in
     omega (arith, ap length line, c.name_length.ensures.0, c.fields_length.ensures)

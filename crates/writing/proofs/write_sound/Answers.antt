@@ -9,8 +9,8 @@ returns-then-text-needed c =
 
 pub returns : goal.returns
 returns c =
-    let at-put-text = c.before.before.before in
-    let at-text-length = at-put-text.before.before.before in
-    let s = at-text-length.before.before in
-    let needed = at-text-length.text_length-needed in
-    text_written s.args.table.now s.args.text.now s.requires (omega (arith, needed.ensures)) at-put-text.put_text.ensures
+    let at_put_text = c.before.before.before in
+    let at_text_length = at_put_text.before.before.before in
+    let s = at_text_length.before.before in
+    let needed = at_text_length.text_length-needed in
+    text_written s.args.table.now s.args.text.now s.requires (omega (arith, needed.ensures)) at_put_text.put_text.ensures

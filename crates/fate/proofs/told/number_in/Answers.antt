@@ -18,14 +18,14 @@ product_at-p-requires c = omega (arith, c.requires, c.loop-k-test.true)
 
 pub returns-then-p-c : goal.returns-then-p-c
 returns-then-p-c c =
-    let at-struct-known = c.before.before.before.before.before in
-    let p = at-struct-known.before in
-    let in-loop = p.before in
-    let at-loop = in-loop.before in
-    let s = at-loop.before.before.before in
-    let l = at-loop.loop-k in
+    let at_struct_known = c.before.before.before.before.before in
+    let p = at_struct_known.before in
+    let in_loop = p.before in
+    let at_loop = in_loop.before in
+    let s = at_loop.before.before.before in
+    let l = at_loop.loop-k in
     record {
-      most = omega (arith, in-loop.loop-k-test.true);
+      most = omega (arith, in_loop.loop-k-test.true);
       is = λ listed. sym p.product_at-p.ensures ∙ same_is p.product_at-p.result s.args.c c.if-p-c.true;
       first = l.invariant.1;
     }
@@ -38,14 +38,14 @@ loop-k-smaller c = omega arith
 
 pub loop-k-preserved : goal.loop-k-preserved
 loop-k-preserved c =
-    let at-struct-known = c.before.before.before.before.before in
-    let p = at-struct-known.before in
-    let in-loop = p.before in
-    let at-loop = in-loop.before in
-    let s = at-loop.before.before.before in
-    let l = at-loop.loop-k in
+    let at_struct_known = c.before.before.before.before.before in
+    let p = at_struct_known.before in
+    let in_loop = p.before in
+    let at_loop = in_loop.before in
+    let s = at_loop.before.before.before in
+    let l = at_loop.loop-k in
     let other = ap (λ (a : Product). same a s.args.c) (sym p.product_at-p.ensures) ∙ c.if-p-c.false in
-    (omega (arith, in-loop.loop-k-test.true), up_to (λ i. same (product_at s.args.list.now i) s.args.c ≡ false) l.k l.invariant.1 other)
+    (omega (arith, in_loop.loop-k-test.true), up_to (λ i. same (product_at s.args.list.now i) s.args.c ≡ false) l.k l.invariant.1 other)
 
 pub returns : goal.returns
 returns c =

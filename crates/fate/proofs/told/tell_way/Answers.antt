@@ -48,8 +48,8 @@ module _ (m : After-number_in) where
 pub returns-then-number-products : goal.returns-then-number-products
 returns-then-number-products c =
     let m = c.before.before.before.before in
-    let at-fate-in = m.before.before in
-    let way = at-fate-in.way-chosen.ensures in
+    let at_fate_in = m.before.before in
+    let way = at_fate_in.way-chosen.ensures in
     let T = (start m).requires.told_to in
     let h = (start m).requires.k_bound in
     let N = m.number_in-number.ensures in
@@ -79,8 +79,8 @@ returns-in-Dropped c =
 pub returns-else-number-products : goal.returns-else-number-products
 returns-else-number-products c =
     let m = c.before.before.before in
-    let at-fate-in = m.before.before in
-    let way = at-fate-in.way-chosen.ensures in
+    let at_fate_in = m.before.before in
+    let way = at_fate_in.way-chosen.ensures in
     let T = (start m).requires.told_to in
     let h = (start m).requires.k_bound in
     let N = m.number_in-number.ensures in record {

@@ -1,7 +1,6 @@
 use Prim.Native.Nat.{ℕ, ◌+◌}
 use native.Mathlib.Omega.{arith}
 use mathlib.Core.Bool.{◌&&◌}
-use borrow.Author.Tests.{not-true, not-false}
 use mathlib.Core.Path.{◌≡◌, sym, ap, ◌∙◌}
 use lib.IntN.{ℤ, pos}
 use Rattle.ground.specs.Lists.{rest, all_of}
@@ -41,16 +40,16 @@ overflow_add-start c = omega (arith, few_named c.args.kind, c.named_words-start.
 pub returns-then-not-right : goal.returns-then-not-right
 returns-then-not-right c =
     let d = c.before.before in
-    c.refused.ensures ∙ ap checked_by (sym (fields_wrong (start d).args.kind (words d) (start d).args.row (sym (first d) ∙ not-true _ c.if-not-right.true-raw)))
+    c.refused.ensures ∙ ap checked_by (sym (fields_wrong (start d).args.kind (words d) (start d).args.row (sym (first d) ∙ c.if-not-right.true)))
 
 pub returns-then-not-children_right : goal.returns-then-not-children_right
 returns-then-not-children_right c =
     let e = c.before.before in
     let d = e.before.before in
-    c.refused-then-not-children_right.ensures ∙ ap checked_by (sym (children_wrong (start d).args.kind (words d) (start d).args.row (sym (first d) ∙ not-false _ e.if-not-right.false-raw) (sym e.children_right.ensures ∙ not-true _ c.if-not-children_right.true-raw)))
+    c.refused-then-not-children_right.ensures ∙ ap checked_by (sym (children_wrong (start d).args.kind (words d) (start d).args.row (sym (first d) ∙ e.if-not-right.false) (sym e.children_right.ensures ∙ c.if-not-children_right.true)))
 
 pub returns : goal.returns
 returns c =
     let e = c.before in
     let d = e.before.before in
-    ap checked_by (sym (row_right (start d).args.kind (words d) (start d).args.row (sym (first d) ∙ not-false _ e.if-not-right.false-raw) (sym e.children_right.ensures ∙ not-false _ c.if-not-children_right.false-raw)))
+    ap checked_by (sym (row_right (start d).args.kind (words d) (start d).args.row (sym (first d) ∙ e.if-not-right.false) (sym e.children_right.ensures ∙ c.if-not-children_right.false)))

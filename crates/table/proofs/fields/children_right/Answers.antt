@@ -10,10 +10,10 @@ returns-then-is_primitive c = rw (← c.is_primitive.ensures, c.if-is_primitive.
 
 pub returns : goal.returns
 returns c =
-    let at-word = c.before.before.before in
-    let else1 = at-word.before in
-    let at-is-primitive = else1.before in
-    let s = at-is-primitive.before in
-    let left = c.is_earlier.ensures ∙ ap (is_earlier s.args.row) (read w32 at-word.word.type_inv at-word.word.ensures) in
+    let at_word = c.before.before.before in
+    let else1 = at_word.before in
+    let at_is_primitive = else1.before in
+    let s = at_is_primitive.before in
+    let left = c.is_earlier.ensures ∙ ap (is_earlier s.args.row) (read w32 at_word.word.type_inv at_word.word.ensures) in
     let right = c.is_earlier-2.ensures ∙ ap (is_earlier s.args.row) (read w32 c.word-2.type_inv c.word-2.ensures) in
-    rw (← at-is-primitive.is_primitive.ensures, else1.if-is_primitive.false) (λ i. left i && right i)
+    rw (← at_is_primitive.is_primitive.ensures, else1.if-is_primitive.false) (λ i. left i && right i)

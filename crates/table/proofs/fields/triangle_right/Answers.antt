@@ -1,7 +1,6 @@
 use mathlib.Core.Bool.{true, not, ◌&&◌}
 use mathlib.Core.Path.{◌≡◌, sym, ap, ◌∙◌}
 use borrow.Author.Rules.{rules}
-use borrow.Author.Tests.{not-true, not-false}
 use lib.IntN.{ℤ, pos}
 use mir.Syntax.{w32, w64}
 use mir.Val.{SFits}
@@ -38,17 +37,17 @@ fits s = record { x = search rules; y = search rules; zlo = search rules; zhi = 
 
 -- the test of the corners, and the start
 abbrev start : After-corner_right3 → Start
-start c = let at-corner-right = c.before.before in at-corner-right.before.before.before.before
+start c = let at_corner_right = c.before.before in at_corner_right.before.before.before.before
 
 in_range : (c : After-corner_right3) → (c.corner_right.result && (c.corner_right-2.result && c.corner_right-3.result)) ≡ corners_right (start c).args.t
 in_range c = λ i. c.corner_right.ensures i && (c.corner_right-2.ensures i && c.corner_right-3.ensures i)
 
 pub returns-then-not-in_range : goal.returns-then-not-in_range
-returns-then-not-in_range c = and_no (corners_right (start c.before).args.t) _ (sym (in_range c.before) ∙ not-true _ c.if-not-in_range.true-raw)
+returns-then-not-in_range c = and_no (corners_right (start c.before).args.t) _ (sym (in_range c.before) ∙ c.if-not-in_range.true)
 
 -- the corners are in range
 right : (e : Else1) → corners_right (start e.before).args.t ≡ true
-right e = sym (in_range e.before) ∙ not-false _ e.if-not-in_range.false-raw
+right e = sym (in_range e.before) ∙ e.if-not-in_range.false
 
 pub side-requires : goal.side-requires
 side-requires c =

@@ -30,16 +30,16 @@ returns-then-at c =
 
 pub stale_at-requires : goal.stale_at-requires
 stale_at-requires c =
-    let at-struct-known = c.before.before.before.before.before in
-    let s = at-struct-known.before.before in
+    let at_struct_known = c.before.before.before.before.before in
+    let s = at_struct_known.before.before in
     record { end = s.args.end; rows = s.requires.sound_rows; here = s.requires.sound_rows.linked.some }
 
 pub returns-then-stale_at : goal.returns-then-stale_at
 returns-then-stale_at c =
-    let at-stale-at = c.before.before in
-    let else1 = at-stale-at.before.before.before.before in
+    let at_stale_at = c.before.before in
+    let else1 = at_stale_at.before.before.before.before in
     let s = else1.before.before.before in
-    put_none s.args.keeps s.args.list.now s.args.count (end_stale s.args.links.now s.args.masks.now s.args.at s.args.end else1.if-at-end.false c.if-at.false at-stale-at.stale_at.ensures c.if-stale_at.true)
+    put_none s.args.keeps s.args.list.now s.args.count (end_stale s.args.links.now s.args.masks.now s.args.at s.args.end else1.if-at-end.false c.if-at.false at_stale_at.stale_at.ensures c.if-stale_at.true)
 
 -- past all tests there is a product
 module _ (e : Else3) where
