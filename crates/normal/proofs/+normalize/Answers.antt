@@ -18,37 +18,50 @@ use Rattle.normal.proofs.Reading.{tree_at, lies_tree}
 use Rattle.normal.proofs.Whole.{Onward, onward_first, onward_same, onward_ready, settled, left_before, left_after, left_ready, left_lower, left_grows, left_widens, left_done}
 use Rattle.normal.proofs.Whole.{settled_few, settled_node, onward_next, onward_falls, to_go, normal_leaf, end_other, right_before, right_ready, right_lower, right_done}
 use Rattle.normal.proofs.+normalize.Lts-normalize as lts
-use Rattle.normal.proofs.+normalize.Tie as tie
-use Rattle.normal.proofs.+normalize.Reads as reads
+use Rattle.normal.proofs.normalize.Reads as reads
+use Rattle.normal.proofs.head.Reads as head_reads
+use Rattle.normal.proofs.reduce.Reads as reduce_reads
+use Rattle.normal.proofs.widen.Reads as widen_reads
+use Rattle.normal.proofs.again.Reads as again_reads
+use Rattle.normal.proofs.left_words.Reads as left_words_reads
 use Rattle.normal.proofs.+normalize.Goals as goal
 
-abbrev At-loop : Type 0
-At-loop = lts.At-loop tie.the-claims reads.Pre reads.Post goal.the-invariant-loop-going goal.the-decreases-loop-going
+abbrev claims : ℕ → lts.Claims
+claims t = (
+  head_reads.Asked,
+  head_reads.Learnt,
+  reduce_reads.Asked,
+  reduce_reads.Learnt,
+  goal.normalize-below t,
+  reads.Post,
+  widen_reads.Asked,
+  widen_reads.Learnt,
+  again_reads.Asked,
+  again_reads.Learnt,
+  left_words_reads.Asked,
+  left_words_reads.Learnt,
+)
 
-abbrev After-reduce : Type 0
-After-reduce = lts.After-reduce tie.the-claims reads.Pre reads.Post goal.the-invariant-loop-going goal.the-decreases-loop-going
+abbrev At-loop : ℕ → Type 0
+At-loop t = lts.At-loop (claims t) (goal.normalize-at t) reads.Post goal.the-normalize-invariant-loop-going goal.the-normalize-decreases-loop-going (goal.the-clauses-normalize t)
 
-abbrev After-normalize : Type 0
-After-normalize = lts.After-normalize tie.the-claims reads.Pre reads.Post goal.the-invariant-loop-going goal.the-decreases-loop-going
+abbrev After-reduce : ℕ → Type 0
+After-reduce t = lts.After-reduce (claims t) (goal.normalize-at t) reads.Post goal.the-normalize-invariant-loop-going goal.the-normalize-decreases-loop-going (goal.the-clauses-normalize t)
 
-abbrev After-widen : Type 0
-After-widen = lts.After-widen tie.the-claims reads.Pre reads.Post goal.the-invariant-loop-going goal.the-decreases-loop-going
+abbrev After-normalize : ℕ → Type 0
+After-normalize t = lts.After-normalize (claims t) (goal.normalize-at t) reads.Post goal.the-normalize-invariant-loop-going goal.the-normalize-decreases-loop-going (goal.the-clauses-normalize t)
 
-abbrev After-again : Type 0
-After-again = lts.After-again tie.the-claims reads.Pre reads.Post goal.the-invariant-loop-going goal.the-decreases-loop-going
+abbrev After-widen : ℕ → Type 0
+After-widen t = lts.After-widen (claims t) (goal.normalize-at t) reads.Post goal.the-normalize-invariant-loop-going goal.the-normalize-decreases-loop-going (goal.the-clauses-normalize t)
 
-abbrev After-left_words : Type 0
-After-left_words = lts.After-left_words tie.the-claims reads.Pre reads.Post goal.the-invariant-loop-going goal.the-decreases-loop-going
+abbrev After-again : ℕ → Type 0
+After-again t = lts.After-again (claims t) (goal.normalize-at t) reads.Post goal.the-normalize-invariant-loop-going goal.the-normalize-decreases-loop-going (goal.the-clauses-normalize t)
 
-abbrev normalize_Inv_loop : normalize-lts.invariant-loop
-normalize_Inv_loop w₀ at used n₀ going₀ w n going =
-    (length w ≡ length w₀) × ((a : List ℤ) (T : Form) (c : List ℤ) → Ready w₀ at used a T c → 16 ≤ head T → Onward w at n a T c going)
-
-abbrev normalize_μ_loop : normalize-lts.decreases-loop
-normalize_μ_loop w₀ at used n₀ going₀ w n going = to_go w at going
+abbrev After-left_words : ℕ → Type 0
+After-left_words t = lts.After-left_words (claims t) (goal.normalize-at t) reads.Post goal.the-normalize-invariant-loop-going goal.the-normalize-decreases-loop-going (goal.the-clauses-normalize t)
 
 -- ---- at the loop
-module _ (t : ℕ) (d : At-loop normalize_Inv_loop normalize_μ_loop) where
+module _ (t : ℕ) (d : At-loop t) where
   module _ {a : List ℤ} {T : Form} {c : List ℤ} (r : Ready d.args.w.now d.args.at d.args.used a T c) where
     onward : Onward d.loop-going.w d.args.at d.loop-going.n a T c d.loop-going.going
     onward = d.loop-going.invariant.1 a T c r (omega (arith, d.head.ensures T (held_lies r.held), d.if-head-lt-OPERATIONS.false))
@@ -58,23 +71,23 @@ module _ (t : ℕ) (d : At-loop normalize_Inv_loop normalize_μ_loop) where
   deep = sym (ap (λ (T : Form). high T true) (lies_tree (held_lies d.requires.3.held))) ∙ d.decreases
 
 -- ---- in the loop: the rewrites at the node, ..
-module _ (t : ℕ) (e : After-reduce normalize_Inv_loop normalize_μ_loop) {a : List ℤ} {T : Form} {c : List ℤ}
-    (r : Ready e.before.before.before.before.before.before.before.args.w.now e.before.before.before.before.before.before.before.args.at e.before.before.before.before.before.before.before.args.used a T c) where
+module _ (t : ℕ) (e : After-reduce t) {a : List ℤ} {T : Form} {c : List ℤ}
+    (r : Ready e.args.w.now e.args.at e.args.used a T c) where
   ready_in : Ready e.loop-going.w e.args.at e.loop-going.n a (onward t e.before.before.before r).tree c
   ready_in = onward_ready r e.loop-going.invariant.0 e.loop-going-test.true (onward t e.before.before.before r)
 
-  stopped : Stopped e.reduce-start.last.0 e.args.at e.reduce-start.result a (onward t e.before.before.before r).tree c
+  stopped : Stopped e.reduce-start.new.w e.args.at e.reduce-start.result a (onward t e.before.before.before r).tree c
   stopped = e.reduce-start.ensures a (onward t e.before.before.before r).tree c ready_in
 
   is_node : 16 ≤ head (onward t e.before.before.before r).tree
   is_node = (onward t e.before.before.before r).node
 
-  left_in : Ready e.reduce-start.last.0 (e.args.at + 1) e.reduce-start.result (left_before stopped is_node) (left_of stopped.tree) (left_after stopped is_node)
+  left_in : Ready e.reduce-start.new.w (e.args.at + 1) e.reduce-start.result (left_before stopped is_node) (left_of stopped.tree) (left_after stopped is_node)
   left_in = left_ready stopped is_node ready_in e.reduce-start.auto.w
 
 -- .. its left part, ..
-module _ (t : ℕ) (f : After-normalize normalize_Inv_loop normalize_μ_loop) {a : List ℤ} {T : Form} {c : List ℤ}
-    (r : Ready f.before.before.before.before.before.before.before.before.before.before.args.w.now f.before.before.before.before.before.before.before.before.before.before.args.at f.before.before.before.before.before.before.before.before.before.before.args.used a T c) where
+module _ (t : ℕ) (f : After-normalize t) {a : List ℤ} {T : Form} {c : List ℤ}
+    (r : Ready f.args.w.now f.args.at f.args.used a T c) where
   left_held : Held f.normalize-n.new.w (f.args.at + 1) f.normalize-n.result (left_before (stopped t f.before.before.before r) (is_node t f.before.before.before r))
       (procedure.normalize (left_of (stopped t f.before.before.before r).tree)) (left_after (stopped t f.before.before.before r) (is_node t f.before.before.before r))
   left_held =
@@ -82,21 +95,21 @@ module _ (t : ℕ) (f : After-normalize normalize_Inv_loop normalize_μ_loop) {a
       f.normalize-n.ensures (left_before (stopped t e r) (is_node t e r)) (left_of (stopped t e r).tree) (left_after (stopped t e r) (is_node t e r)) (left_in t e r)
 
 -- .. its word, ..
-module _ (t : ℕ) (g : After-widen normalize_Inv_loop normalize_μ_loop) {a : List ℤ} {T : Form} {c : List ℤ}
-    (r : Ready g.before.before.before.before.before.before.before.before.before.before.before.before.before.args.w.now g.before.before.before.before.before.before.before.before.before.before.before.before.before.args.at g.before.before.before.before.before.before.before.before.before.before.before.before.before.args.used a T c) where
+module _ (t : ℕ) (g : After-widen t) {a : List ℤ} {T : Form} {c : List ℤ}
+    (r : Ready g.args.w.now g.args.at g.args.used a T c) where
   held_in : Held g.widen.new.w g.args.at g.normalize-n.result a (settled (stopped t g.before.before.before.before.before.before r).tree) c
   held_in =
       let e = g.before.before.before.before.before.before in
       left_done (stopped t e r) (is_node t e r) (left_held t g.before.before.before r) (settled_few (stopped t e r) (is_node t e r) (ready_in t e r)) g.widen.ensures
 
 -- .. and the test
-goes : (t : ℕ) (h : After-again normalize_Inv_loop normalize_μ_loop) {a : List ℤ} {T : Form} {c : List ℤ}
+goes : (t : ℕ) (h : After-again t) {a : List ℤ} {T : Form} {c : List ℤ}
     (r : Ready h.args.w.now h.args.at h.args.used a T c)
-    → h.again-going.result ≡ goes_on (settled (stopped t h.before.before.before.before.before.before.before.before.before r).tree)
+    → h.again-going.result ≡ goes_on (settled (stopped t h.before.before.before.before.before.before.before.before r).tree)
 goes t h r =
-    let e = h.before.before.before.before.before.before.before.before.before in
+    let e = h.before.before.before.before.before.before.before.before in
     let s = stopped t e r in
-    h.again-going.ensures (settled s.tree) (held_lies (held_in t h.before.before.before r)) (settled_node s (is_node t e r))
+    h.again-going.ensures (settled s.tree) (held_lies (held_in t h.before.before r)) (settled_node s (is_node t e r))
 
 pub head-requires : goal.head-requires
 head-requires t c = let p = c.requires in (p.1, held_lies p.3.held)
@@ -146,7 +159,7 @@ widen-requires t c =
 
 pub again-going-requires : goal.again-going-requires
 again-going-requires t c =
-    let g = c.before.before in
+    let g = c.before in
     let r = g.requires.3 in
     let s = stopped t g.before.before.before.before.before.before r in
     (settled s.tree, held_lies (held_in t g r), settled_node s (is_node t g.before.before.before.before.before.before r))
@@ -155,25 +168,25 @@ pub loop-going-smaller : goal.loop-going-smaller
 loop-going-smaller t c =
     let S = c.before.before.before.before.before.before.before.before.before.before.before.before.before.before in
     let r = S.requires.3 in
-    let e = c.before.before.before.before.before.before.before.before.before in
+    let e = c.before.before.before.before.before.before.before.before in
     let d = c.before.before.before.before.before.before.before.before.before.before.before in
     subst (λ (b : Bool). to_go c.widen.new.w S.args.at c.again-going.result < to_go d.loop-going.w S.args.at b) (sym c.loop-going-test.true)
-    (onward_falls (stopped t e r) (is_node t e r) (held_lies (onward t d r).held) (held_in t c.before.before.before r) (goes t c r))
+    (onward_falls (stopped t e r) (is_node t e r) (held_lies (onward t d r).held) (held_in t c.before.before r) (goes t c r))
 
 pub loop-going-preserved : goal.loop-going-preserved
 loop-going-preserved t c = (
   c.widen.auto.w ∙ c.normalize-n.auto.w ∙ c.reduce-start.auto.w ∙ c.loop-going.invariant.0,
   λ a T e r k.
-      let o = onward t c.before.before.before.before.before.before.before.before.before.before.before.before r in
-      onward_next (stopped t c.before.before.before.before.before.before.before.before.before r) (is_node t c.before.before.before.before.before.before.before.before.before r) (onward_same c.loop-going-test.true o) o.deep (held_in t c.before.before.before r) (goes t c r),
+      let o = onward t c.before.before.before.before.before.before.before.before.before.before.before r in
+      onward_next (stopped t c.before.before.before.before.before.before.before.before r) (is_node t c.before.before.before.before.before.before.before.before r) (onward_same c.loop-going-test.true o) o.deep (held_in t c.before.before r) (goes t c r),
 )
 
 pub head-requires-2 : goal.head-requires-2
-head-requires-2 t c = let o = onward t c.before.before c.requires.3 in (o.tree, held_lies o.held)
+head-requires-2 t c = let o = onward t c.before c.requires.3 in (o.tree, held_lies o.held)
 
 pub returns-then-head-ne-UNION : goal.returns-then-head-ne-UNION
 returns-then-head-ne-UNION t c = λ a T e r.
-    let o = onward t c.before.before.before.before r in
+    let o = onward t c.before.before.before r in
     end_other c.loop-going-test.false o (λ x. c.if-head-ne-UNION.true (c.head-2.ensures o.tree (held_lies o.held) ∙ x))
 
 pub overflow_add-right : goal.overflow_add-right
@@ -183,13 +196,13 @@ overflow_add-right t c =
     search rules
 
 pub left_words-requires : goal.left_words-requires
-left_words-requires t c = let o = onward t c.before.before.before.before.before c.requires.3 in (o.tree, held_lies o.held)
+left_words-requires t c = let o = onward t c.before.before.before c.requires.3 in (o.tree, held_lies o.held)
 
 -- ---- after it, at a union
-module _ (t : ℕ) (h : After-left_words normalize_Inv_loop normalize_μ_loop) {a : List ℤ} {T : Form} {c : List ℤ}
-    (r : Ready h.before.before.before.before.before.before.before.before.before.before.args.w.now h.before.before.before.before.before.before.before.before.before.before.args.at h.before.before.before.before.before.before.before.before.before.before.args.used a T c) where
+module _ (t : ℕ) (h : After-left_words t) {a : List ℤ} {T : Form} {c : List ℤ}
+    (r : Ready h.args.w.now h.args.at h.args.used a T c) where
   last_one : Onward h.loop-going.w h.args.at h.loop-going.n a T c h.loop-going.going
-  last_one = onward t h.before.before.before.before.before.before r
+  last_one = onward t h.before.before.before.before r
 
   is_union : head last_one.tree ≡ 19
   is_union = sym (h.head-2.ensures last_one.tree (held_lies last_one.held)) ∙ h.if-head-ne-UNION.false
@@ -220,7 +233,7 @@ normalize-requires t c =
     let r = c.requires.3 in
     let o = last_one t h r in
     let u = is_union t h r in (
-      subst (λ (j : ℕ). high (tree_at h.loop-going.w j) true < t) (sym (place t h r)) (right_lower (ended t h r) o u (deep t h.before.before.before.before.before.before)),
+      subst (λ (j : ℕ). high (tree_at h.loop-going.w j) true < t) (sym (place t h r)) (right_lower (ended t h r) o u (deep t h.before.before.before.before)),
       (right_before (ended t h r) o u, right_of o.tree, c.requires.2, ready_right t h r),
     )
 

@@ -19,7 +19,7 @@ After-head3 = lts.After-head3 tie.the-claims reads.Pre reads.Post tie.handed_cla
 
 -- what was read of the node and its parts
 module _ (d : After-head3) {a : List ℤ} {T : Form} {c : List ℤ}
-    (p : Placed d.before.before.before.before.before.before.before.before.args.w.now d.before.before.before.before.before.before.before.before.args.at d.before.before.before.before.before.before.before.before.args.right d.before.before.before.before.before.before.before.before.args.used a T c) where
+    (p : Placed d.args.w.now d.args.at d.args.right d.args.used a T c) where
   node_is : d.head-k.result ≡ head T
   node_is = d.head-k.ensures T (held_lies p.ready.held)
 

@@ -20,7 +20,7 @@ After-left_words = lts.After-left_words tie.the-claims reads.Pre reads.Post tie.
 
 -- what was read of the two nodes
 module _ (d : After-left_words) {a : List ℤ} {T : Form} {c : List ℤ}
-    (p : Placed d.before.before.before.before.before.before.args.w.now d.before.before.before.before.before.before.args.at d.before.before.before.before.before.before.args.right d.before.before.before.before.before.before.args.used a T c) (g : 16 ≤ head (right_of T)) where
+    (p : Placed d.args.w.now d.args.at d.args.right d.args.used a T c) (g : 16 ≤ head (right_of T)) where
   node_is : d.head-k.result ≡ head T
   node_is = d.head-k.ensures T (held_lies p.ready.held)
 

@@ -37,6 +37,12 @@ loop-fits-smaller c =
     subst (λ (b : Bool). left_over c.rewrite-s.new.w c.args.at c.rewrite-s.result.took < left_over c.loop-fits.w c.args.at b) (sym c.loop-fits-test.true)
     (turn_falls c.rewrite-s.new.w c.rewrite-s.result.used p.0 p.2 c.rewrite-s.result.took (held_lies g.held) (c.rewrite-s.ensures p.0 g.tree p.2 (on c.before.before.before.before p.3)))
 
+pub loop-fits-preserved : goal.loop-fits-preserved
+loop-fits-preserved c = (
+  c.rewrite-s.auto.w ∙ c.loop-fits.invariant.0,
+  λ a T e r.
+      let g = c.loop-fits.invariant.1 a T e r in
+      turn_on c.rewrite-s.new.w c.args.at c.rewrite-s.result.used a e c.rewrite-s.result.took g.leads (c.rewrite-s.ensures a g.tree e (on c.before.before.before.before r)),
 )
 
 pub returns : goal.returns

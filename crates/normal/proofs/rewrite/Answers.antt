@@ -24,7 +24,7 @@ abbrev After-head2 : Type 0
 After-head2 = lts.After-head2 tie.the-claims reads.Pre reads.Post
 
 -- where the right part stands
-module _ (d : After-left_words) {a : List ℤ} {T : Form} {c : List ℤ} (r : Ready d.before.before.before.before.before.args.w.now d.before.before.before.before.before.args.at d.before.before.before.before.before.args.used a T c) where
+module _ (d : After-left_words) {a : List ℤ} {T : Form} {c : List ℤ} (r : Ready d.args.w.now d.args.at d.args.used a T c) where
   is_cut : 20 ≤ head T
   is_cut = omega (arith, d.head.ensures T (held_lies r.held), d.if-head-lt-INTER.false)
 

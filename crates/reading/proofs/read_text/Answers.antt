@@ -31,7 +31,10 @@ pub overflow_mul-size : goal.overflow_mul-size
 overflow_mul-size c = record { fits = omega (arith, (rows_read c.before).count.not_over) }
 
 pub slice_bounds-give-end : goal.slice_bounds-give-end
-slice_bounds-give-end c = sym (length-take-le _ _ (slice_bounds-words-end c.before.before))
+slice_bounds-give-end c =
+    let rows = rows_read c.before.before in
+    let size = c.read_form-form.auto.table in
+    sym (length-take-le _ _ (omega (arith, rows.count.not_over, size, length-replicate 1524 (pos 0))))
 
 pub returns-in-Faulty : goal.returns-in-Faulty
 returns-in-Faulty c =

@@ -1,0 +1,12 @@
+use Prim.Native.Nat.{◌-◌, ◌≤◌}
+use mathlib.Core.Path.{◌≡◌}
+use lib.Seq.{sets}
+use Rattle.screen.proofs.Frames.{triples_to}
+use Rattle.screen.proofs.put_triples.Given as goal
+
+abbrev pub invariant-loop-j : goal.invariant-loop-j
+invariant-loop-j l =
+    (l.j ≤ l.frames) × (l.triples ≡ sets l.initial.triples 0 (triples_to l.table l.list l.codes l.frames l.place l.j))
+
+abbrev pub decreases-loop-j : goal.decreases-loop-j
+decreases-loop-j l = l.frames - l.j
