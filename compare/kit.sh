@@ -1,13 +1,13 @@
 # To be sourced: compiles, links and starts C for x86-64 with the kit's own compiler and linker, so that nothing need be installed.
 . tools/start.sh
-kit=$(dirname "$(dirname "$(rt doc)")")/on/$(uname -m)
+kit=$(dirname "$(rt doc)")
 tools=$kit/toolchain
 out=target/compare
 archive=target/staticlib/libzone_c.a
 
 make_archive() {
     mkdir -p "$out"
-    rt staticlib zone_c >"$out/archive.log" 2>&1 || { cat "$out/archive.log"; exit 1; }
+    tools/archive >"$out/archive.log" 2>&1 || { cat "$out/archive.log"; exit 1; }
 }
 
 # compile FOLDER NAME..: FOLDER/NAME.c to NAME.o

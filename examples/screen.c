@@ -1,6 +1,6 @@
 /* Reads a zone text, makes its list and searches a screenful of frames in one call. On x86-64, from the top of the repository:
 
-       rt staticlib zone_c
+       tools/archive
        cc -std=c99 -Iinclude examples/screen.c target/staticlib/libzone_c.a -o target/screen
        target/screen examples/runt.zone
 

@@ -1,6 +1,6 @@
 /* Reads a zone text, makes its list for a window and searches a frame by that list. On x86-64, from the top of the repository:
 
-       rt staticlib zone_c
+       tools/archive
        cc -std=c99 -Iinclude examples/search.c target/staticlib/libzone_c.a -o target/search
        target/search examples/q.zone
 

@@ -3,7 +3,7 @@
    whole tree; then the products, with their words as in a list. The steps are those of the plain C in compare/. On x86-64, from
    the top of the repository:
 
-       rt staticlib zone_c
+       tools/archive
        cc -std=c99 -Iinclude examples/steps.c compare/plain_table.c compare/plain_make.c compare/plain_rewrite.c \
            target/staticlib/libzone_c.a -o target/steps
        target/steps examples/training/14-nine-rules.zone

@@ -1,6 +1,6 @@
 /* The story of docs/TRAINING.md: one window's list on its neighbour's frames. On x86-64, from the top of the repository:
 
-       rt staticlib zone_c
+       tools/archive
        cc -std=c99 -Iinclude examples/story.c target/staticlib/libzone_c.a -o target/story
        target/story
 

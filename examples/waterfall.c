@@ -2,7 +2,7 @@
    output. The newer the newest frame that a place has in the zone, the brighter it is; black has none. On x86-64, from the top of
    the repository:
 
-       rt staticlib zone_c
+       tools/archive
        cc -std=c99 -Iinclude examples/waterfall.c target/staticlib/libzone_c.a -o target/waterfall
        target/waterfall examples/waterfall.zone > target/waterfall.pgm
 

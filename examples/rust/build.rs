@@ -1,4 +1,4 @@
-// The archive that `rt staticlib zone_c` leaves at the top of the repository.
+// The archive that `tools/archive` leaves at the top of the repository.
 fn main() {
     let top = concat!(env!("CARGO_MANIFEST_DIR"), "/../..");
     println!("cargo:rustc-link-search=native={top}/target/staticlib");

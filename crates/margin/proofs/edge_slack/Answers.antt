@@ -74,6 +74,6 @@ slack-requires c =
 
 pub returns : goal.returns
 returns c = let e = c.before in record {
-      slack = slack_as (le_refl c.slack.result) (side_is e) (weight_is e) c.slack.ensures.slack;
-      bounded = c.slack.ensures.bounded;
-    }
+  slack = slack_as (le_refl c.slack.result) (side_is e) (weight_is e) c.slack.ensures.slack;
+  bounded = c.slack.ensures.bounded;
+}

@@ -26,21 +26,21 @@ module _ (s : Start) where
 
 pub side-requires : goal.side-requires
 side-requires c = let s = c.before.before.before in record {
-      a_value = (first_right s.args.t s.requires.t_value, second_right s.args.t s.requires.t_value);
-      x_value = (x_read s, y_read s);
-    }
+  a_value = (first_right s.args.t s.requires.t_value, second_right s.args.t s.requires.t_value);
+  x_value = (x_read s, y_read s);
+}
 
 pub side-requires-2 : goal.side-requires-2
 side-requires-2 c = let s = c.before.before.before.before in record {
-      a_value = (second_right s.args.t s.requires.t_value, third_right s.args.t s.requires.t_value);
-      x_value = (x_read s, y_read s);
-    }
+  a_value = (second_right s.args.t s.requires.t_value, third_right s.args.t s.requires.t_value);
+  x_value = (x_read s, y_read s);
+}
 
 pub side-requires-3 : goal.side-requires-3
 side-requires-3 c = let s = c.before.before.before.before.before in record {
-      a_value = (third_right s.args.t s.requires.t_value, first_right s.args.t s.requires.t_value);
-      x_value = (x_read s, y_read s);
-    }
+  a_value = (third_right s.args.t s.requires.t_value, first_right s.args.t s.requires.t_value);
+  x_value = (x_read s, y_read s);
+}
 
 pub returns : goal.returns
 returns c =

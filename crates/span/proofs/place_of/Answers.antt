@@ -43,6 +43,6 @@ overflow_cast-result-2 c = (subst (λ (z : ℤ). T (non_neg z)) (sym (is_raised 
 
 pub returns : goal.returns
 returns c = record {
-      value = ap nat_abs (is_raised c);
-      bounded = subst (λ (z : ℤ). nat_abs z < places) (sym (is_raised c)) (place_below c.args.coordinate c.requires);
-    }
+  value = ap nat_abs (is_raised c);
+  bounded = subst (λ (z : ℤ). nat_abs z < places) (sym (is_raised c)) (place_below c.args.coordinate c.requires);
+}

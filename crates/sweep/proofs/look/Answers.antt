@@ -90,7 +90,7 @@ returns-then-tells c =
     let K = s.requires.known in record {
       known_2 = known_hit c.with_hit.ensures K;
       told = ap (λ (r : Patch). r.hit) c.with_hit.ensures
-            ∙ told_any (is_inside w) s.args.p s.args.before s.requires.p_value s.args.q K (tells_is w s.args.q c.tells.ensures c.if-tells.true);
+          ∙ told_any (is_inside w) s.args.p s.args.before s.requires.p_value s.args.q K (tells_is w s.args.q c.tells.ensures c.if-tells.true);
       room = s.requires.roomy;
     }
 
@@ -113,7 +113,7 @@ returns-then-tells-2 c =
     let K = f.fresh-n.ensures in record {
       known_2 = known_hit c.with_hit-then-tells-2.ensures K;
       told = ap (λ (r : Patch). r.hit) c.with_hit-then-tells-2.ensures
-            ∙ told_any (is_inside w) s.args.p s.args.before s.requires.p_value n K (tells_is w n c.tells-2.ensures c.if-tells-2.true);
+          ∙ told_any (is_inside w) s.args.p s.args.before s.requires.p_value n K (tells_is w n c.tells-2.ensures c.if-tells-2.true);
       room = s.requires.roomy;
     }
 

@@ -30,9 +30,9 @@ before_places {samples} {k} B = omega (arith, B.is, place_below (code_at samples
 
 pub code_place-before-requires : goal.code_place-before-requires
 code_place-before-requires c = let s = c.before.before in record {
-      k_in_bounds = omega (arith, (frame_right s.args.samples.now s.args.place s.requires.place_value).some_sample);
-      place_value = s.requires.place_value;
-    }
+  k_in_bounds = omega (arith, (frame_right s.args.samples.now s.args.place s.requires.place_value).some_sample);
+  place_value = s.requires.place_value;
+}
 
 pub loop-k-init : goal.loop-k-init
 loop-k-init c =
