@@ -2,6 +2,6 @@
 
 #![tactic(auto)]
 
-fn main() {
-    questions::answer_file(b"questions");
+fn main(rt: HostRuntime) {
+    questions::answer_file(&rt, b"questions");
 }

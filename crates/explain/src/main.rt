@@ -10,6 +10,7 @@
 
 use lines::numbers;
 use rules::Window;
+use std::os::fd::AsRawFd;
 
 // The words of the lines, by their places.
 const WINDOW: usize = 0;
@@ -18,16 +19,18 @@ const SHOW: usize = 1;
 
 const EXPLAIN: usize = 2;
 
-fn show(name: &[u8]) {
+fn show(rt: &HostRuntime, name: &[u8]) {
     let mut text = io::buffer();
-    let size = lines::read_file(name, &mut text);
+    let size = lines::read_file(rt, name, &mut text);
     telling::say(&text[..size]);
 }
 
-fn explain(name: &[u8], w: Window) {
-    let fd = os::open_read(name);
-    telling::tell_from(fd, w);
-    libc::close(fd);
+// A file that is not there is told as an empty one.
+fn explain(rt: &HostRuntime, name: &[u8], w: Window) {
+    match lines::open(rt, name) {
+        Some(file) => telling::tell_from(file.as_raw_fd(), w),
+        None => telling::tell_zone(b"", w),
+    }
 }
 
 // The file that a line names after its word, none if it has but a word.
@@ -41,35 +44,35 @@ fn file_of(line: &[u8]) -> &[u8] {
 }
 
 // Does what a line says, and answers the window from there on.
-fn obey(line: &[u8], w: Window) -> Window {
+fn obey(rt: &HostRuntime, line: &[u8], w: Window) -> Window {
     let word = lines::read_word(line, 0, b"window\nshow\nexplain\n");
     if word.place == WINDOW {
         return numbers::read_window(line, word.next).window;
     }
     if word.place == SHOW {
-        show(file_of(line));
+        show(rt, file_of(line));
         return w;
     }
     if word.place == EXPLAIN {
-        explain(file_of(line), w);
+        explain(rt, file_of(line), w);
         return w;
     }
     telling::say(line);
     w
 }
 
-fn obey_all(text: &[u8]) {
+fn obey_all(rt: &HostRuntime, text: &[u8]) {
     let mut w = window::everywhere();
     let mut at: usize = 0;
     while at < text.len() {
         let next = lines::next_line(text, at);
-        w = obey(&text[at..next], w);
+        w = obey(rt, &text[at..next], w);
         at = next;
     }
 }
 
-fn main() {
+fn main(rt: HostRuntime) {
     let mut text = io::buffer();
-    let size = lines::read_file(b"lessons", &mut text);
-    obey_all(&text[..size]);
+    let size = lines::read_file(&rt, b"lessons", &mut text);
+    obey_all(&rt, &text[..size]);
 }

@@ -4,11 +4,13 @@
 #![tactic(auto)]
 
 use rules::Window;
+use std::env::{Env, FillError};
 
 // The bound that an argument gives. One that is no number of 32 bits is none of its axis either, and 6 is refused for it.
-fn bound(i: usize) -> i32 {
+fn bound(rt: &HostRuntime, i: usize) -> i32 {
     let mut word: [u8; 16] = [0; 16];
-    let size = os::arg(i, &mut word);
+    // one that is missing, or longer than any such number, is read as an empty one
+    let size = rt.arg(i, &mut word).unwrap_or(0);
     let number = number::read_number(&word[..size], 0);
     if !number.right {
         return 2147483647;
@@ -19,20 +21,25 @@ fn bound(i: usize) -> i32 {
     number.value
 }
 
-fn window_asked() -> Window {
-    if os::arg_count() < 2 {
+fn has_arguments(rt: &HostRuntime) -> bool {
+    let mut word: [u8; 16] = [0; 16];
+    !matches!(rt.arg(1, &mut word), Err(FillError::NotPresent))
+}
+
+fn window_asked(rt: &HostRuntime) -> Window {
+    if !has_arguments(rt) {
         return window::everywhere();
     }
     Window {
-        xlo: bound(1),
-        xhi: bound(2),
-        ylo: bound(3),
-        yhi: bound(4),
-        zlo: bound(5),
-        zhi: bound(6),
+        xlo: bound(rt, 1),
+        xhi: bound(rt, 2),
+        ylo: bound(rt, 3),
+        yhi: bound(rt, 4),
+        zlo: bound(rt, 5),
+        zhi: bound(rt, 6),
     }
 }
 
-fn main() {
-    telling::tell_from(0, window_asked());
+fn main(rt: HostRuntime) {
+    telling::tell_from(0, window_asked(&rt));
 }

@@ -12,6 +12,10 @@ pub mod words;
 ghost use Rattle.std.specs.Prelude.{◌≤◌, ◌<◌, length};
 ghost use Rattle.io.specs.Counts.{IsPrefixLen};
 
+use std::fs::File;
+use std::os::fd::AsRawFd;
+use std::str;
+
 // Whether what was read is right, and how many places are filled now.
 #[derive(Clone, Copy)]
 pub struct Filled {
@@ -26,17 +30,22 @@ pub struct Word {
     pub next: usize,
 }
 
+// Opens the file of this name, if there is one. A path is UTF-8 text.
+pub fn open(rt: &HostRuntime, name: &[u8]) -> Option<File> {
+    match str::from_utf8(name) {
+        Ok(path) => File::open(rt, path).ok(),
+        Err(_) => None,
+    }
+}
+
 // Reads a file, or as much of it as there is room for, and answers how many bytes that is: none if there is no such file.
-pub fn read_file(name: &[u8], text: &mut [u8]) -> usize
+pub fn read_file(rt: &HostRuntime, name: &[u8], text: &mut [u8]) -> usize
     ensures { IsPrefixLen result text.new }
 {
-    let fd = os::open_read(name);
-    if fd < 0 {
-        return 0;
+    match open(rt, name) {
+        Some(file) => io::read_full(file.as_raw_fd(), text),
+        None => 0,
     }
-    let size = io::read_full(fd, text);
-    libc::close(fd);
-    size
 }
 
 // Tells a line that says nothing, or says it of something that is not right.

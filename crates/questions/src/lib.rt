@@ -99,8 +99,8 @@ fn obey_all(text: &[u8]) {
 }
 
 // Answers every line of a file.
-pub fn answer_file(name: &[u8]) {
+pub fn answer_file(rt: &HostRuntime, name: &[u8]) {
     let mut text = io::large_buffer();
-    let size = lines::read_file(name, &mut text);
+    let size = lines::read_file(rt, name, &mut text);
     obey_all(&text[..size]);
 }

@@ -195,7 +195,7 @@ fn tell_table(table: &[i32], w: Window)
 }
 
 // Tells the ways of the zone of a text and its list, or why there is none. The 127 rows of the table always suffice.
-fn tell_zone(text: &[u8], w: Window) {
+pub fn tell_zone(text: &[u8], w: Window) {
     let mut table: [i32; 1524] = [0; 1524];
     let read = zone::read_text(text, &mut table);
     match read {

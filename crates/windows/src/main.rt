@@ -3,10 +3,10 @@
 
 #![tactic(auto)]
 
-fn main() {
+fn main(rt: HostRuntime) {
     io::write_all(
         1,
         b"zone and window\tproducts\toutside\tinside\tout by column\tby code\tby frame\tdisagree\n",
     );
-    questions::answer_file(b"zones");
+    questions::answer_file(&rt, b"zones");
 }
