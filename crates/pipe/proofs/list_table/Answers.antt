@@ -41,8 +41,8 @@ put_list-requires-clause-list_in_bounds c =
 
 pub returns-in-Wrote : goal.returns-in-Wrote
 returns-in-Wrote c =
-    let at-put-list = c.before.before.before in
-    let at-enum-told = at-put-list.before.before.before in
-    let m = at-enum-told.before.before in
-    let bytes = made_listing (table m) zeros (list m) size (made m at-enum-told.in-Wrote.is) in
-    put_same bytes at-put-list.put_list.ensures
+    let at_put_list = c.before.before.before in
+    let at_enum_told = at_put_list.before.before.before in
+    let m = at_enum_told.before.before in
+    let bytes = made_listing (table m) zeros (list m) size (made m at_enum_told.in-Wrote.is) in
+    put_same bytes at_put_list.put_list.ensures

@@ -34,18 +34,18 @@ slice_bounds-table-end c = read_fits (read c.before.before.before c.in-Wrote.is)
 
 pub returns-in-Refused : goal.returns-in-Refused
 returns-in-Refused c =
-    let at-put-refusal = c.before.before.before in
-    let at_read = at-put-refusal.before.before in
+    let at_put_refusal = c.before.before.before in
+    let at_read = at_put_refusal.before.before in
     let r = at_read.before.before in
     let s = r.before.before.before.before in
-    let answer = at_read.in-Refused.is in let told = text_refused size (read r answer) s.requires at-put-refusal.put_refusal.ensures in
+    let answer = at_read.in-Refused.is in let told = text_refused size (read r answer) s.requires at_put_refusal.put_refusal.ensures in
     record { zone_listed = told.0; upper_bound = told.1 }
 
 pub returns-in-Wrote : goal.returns-in-Wrote
 returns-in-Wrote c =
-    let at-list-table = c.before.before.before in
-    let at-read2 = at-list-table.before.before.before in
-    let r = at-read2.before.before in
+    let at_list_table = c.before.before.before in
+    let at_read2 = at_list_table.before.before.before in
+    let r = at_read2.before.before in
     let s = r.before.before.before.before in
-    let answer = at-read2.in-Wrote.is in let told = text_listed (read r answer) s.requires at-list-table.list_table.ensures in
+    let answer = at_read2.in-Wrote.is in let told = text_listed (read r answer) s.requires at_list_table.list_table.ensures in
     record { zone_listed = told.0; upper_bound = told.1 }

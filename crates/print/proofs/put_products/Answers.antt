@@ -18,9 +18,9 @@ product_at-c-requires c = omega (arith, c.requires.count_in_bounds)
 
 pub put_pair-next-requires : goal.put_pair-next-requires
 put_pair-next-requires c =
-    let at-loop = c.before.before.before.before in
-    let s = at-loop.before.before.before in
-    let l = at-loop.loop-k in
+    let at_loop = c.before.before.before.before in
+    let s = at_loop.before.before.before in
+    let l = at_loop.loop-k in
     omega (arith, s.requires.count_in_bounds_2, l.invariant.1.end, put_size l.invariant.1, lines_room s.args.list.now l.k, c.loop-k-test.true)
 
 pub overflow_add-k : goal.overflow_add-k
@@ -31,12 +31,12 @@ loop-k-smaller c = omega arith
 
 pub loop-k-preserved : goal.loop-k-preserved
 loop-k-preserved c =
-    let at-product-at = c.before.before.before.before.before in
-    let at-loop = at-product-at.before.before in
-    let s = at-loop.before.before.before in
+    let at_product_at = c.before.before.before.before.before in
+    let at_loop = at_product_at.before.before in
+    let s = at_loop.before.before.before in
     let s = s.args in
-    let l = at-loop.loop-k in
-    let product : at-product-at.product_at-c.result ≡ product_at s.list.now l.k = at-product-at.product_at-c.ensures in
+    let l = at_loop.loop-k in
+    let product : at_product_at.product_at-c.result ≡ product_at s.list.now l.k = at_product_at.product_at-c.ensures in
     let line = put_same (ap product_line (sym product)) c.put_pair-next.ensures in
     (omega arith, put_same (lines_next s.list.now l.k) (put_join l.invariant.1 line))
 

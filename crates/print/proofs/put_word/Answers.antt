@@ -8,9 +8,9 @@ put_decimal-next-requires c = let s = c.before.before in omega (arith, s.require
 
 pub bounds-out-next : goal.bounds-out-next
 bounds-out-next c =
-    let at-put-decimal = c.before.before in
-    let s = at-put-decimal.before.before.before in
-    let number = at-put-decimal.put_decimal-next.ensures in
+    let at_put_decimal = c.before.before in
+    let s = at_put_decimal.before.before.before in
+    let number = at_put_decimal.put_decimal-next.ensures in
     omega (arith, s.requires, number.end, put_size number, few_digits 20 s.args.n)
 
 pub overflow_add-result : goal.overflow_add-result
@@ -18,7 +18,7 @@ overflow_add-result c = omega (arith, bounds-out-next c)
 
 pub returns : goal.returns
 returns c =
-    let at-put-decimal = c.before.before in
-    let s = at-put-decimal.before.before.before in
-    let number = at-put-decimal.put_decimal-next in
+    let at_put_decimal = c.before.before in
+    let s = at_put_decimal.before.before.before in
+    let number = at_put_decimal.put_decimal-next in
     put_join number.ensures (put_one s.args.last number.new.text number.result)

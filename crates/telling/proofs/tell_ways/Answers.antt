@@ -7,17 +7,17 @@ use Rattle.telling.proofs.tell_ways.Goals as goal
 
 pub ways-ways-requires : goal.ways-ways-requires
 ways-ways-requires c =
-    let at-number-rows = c.before.before.before in
-    let s = at-number-rows.before.before.before in record {
+    let at_number_rows = c.before.before.before in
+    let s = at_number_rows.before.before.before in record {
       sound = s.requires.sound;
-      numbered = at-number-rows.number_rows.ensures.1;
+      numbered = at_number_rows.number_rows.ensures.1;
       remembered = nothing_remembered s.args.table.now;
     }
 
 pub loop-k-init : goal.loop-k-init
 loop-k-init c =
-    let at-number-rows = c.before.before.before.before in
-    let s = at-number-rows.before.before.before in
+    let at_number_rows = c.before.before.before.before in
+    let s = at_number_rows.before.before.before in
     (c.ways-ways.ensures.1, nothing_told s.requires.each_once s.requires.list_bound (length-replicate {A = ℕ} 65536 0))
 
 pub tell_way-way-requires : goal.tell_way-way-requires

@@ -8,5 +8,5 @@ slice_bounds-table-end c = read_fits (subst (TextRead _ _ _) c.in-Wrote.is c.rea
 
 pub tell_table-requires : goal.tell_table-requires
 tell_table-requires c =
-    let at-table2 = c.before.before.before in
-    read_sound (subst (TextRead _ _ _) c.in-Wrote.is at-table2.read_text-read.ensures)
+    let at_table2 = c.before.before.before in
+    read_sound (subst (TextRead _ _ _) c.in-Wrote.is at_table2.read_text-read.ensures)
