@@ -13,18 +13,18 @@ use Rattle.rules.specs.declared.Product.{Product}
 use Rattle.rules.specs.declared.Refusal.{Refusal}
 use Rattle.rules.specs.declared.Window.{Window}
 use Rattle.rules.specs.declared.Written.{Written}
-use Rattle.rules.specs.declared.Written.TheVariants.{Wrote}
+use Rattle.rules.specs.declared.Written.TheVariants.{Wrote, Refused}
 use Rattle.rules.specs.Choices.{expansion}
 use Rattle.rules.specs.ListCalls.{window_refusal, choices_refusal, zone_list, make_refusal, ListMade}
 use Rattle.rules.specs.Boxes.{full_range}
-use Rattle.rules.specs.Listing.{listing_room, list_lines, printed}
+use Rattle.rules.specs.Listing.{listing_room, list_lines, refusal_line, printed}
 use Rattle.rules.specs.ListWords.{product_count, place_of, products_in}
 use Rattle.rules.specs.Products.{products}
 use Rattle.rules.specs.Refusals.{room_refusal}
 use Rattle.rules.specs.Table.{primitives}
 use Rattle.rules.specs.Tree.{tree_of}
 use Rattle.rules.specs.Verdict.{table_refusal}
-use Rattle.rules.proofs.Told.{wrote_none}
+use Rattle.rules.proofs.Told.{wrote_none, refused_some}
 use Rattle.laws.proofs.Soundness.{unless_kept}
 use Rattle.laws.proofs.Words.{list_length, list_count, zone_products}
 use Rattle.laws.proofs.ZoneProducts.{is_over}
@@ -62,7 +62,13 @@ module _ (t : List ℤ) where
       go (some r) few = omega (arith, refusal_most r)
 
   module _ (before after : List ℕ) (size : length before ≡ listing_room) where
-    -- the list was made: its products are those of the zone, and all of them are there
+    -- the list was refused
+    pub refused_listing : {r : Refusal} → ListMade t full_range before after (Refused r) → table_listing t ≡ refusal_line r
+    refused_listing made =
+        let refusal = refused_some (rules (length before)) (length (zone_list t full_range)) made.answer in
+        ap (λ (x : Option Refusal). printed x all) (ap rules (sym size) ∙ refusal)
+
+    -- or it was made: its products are those of the zone, and all of them are there
     module _ {n : ℕ} (made : ListMade t full_range before after (Wrote n)) where
       fine : rules (length before) ≡ none
       fine = (wrote_none (rules (length before)) (length (zone_list t full_range)) n made.answer).0
