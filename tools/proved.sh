@@ -25,14 +25,14 @@ crates_below() {
         END { visit(wanted) }' "$root/crates.txt"
 }
 
-# stamp_of NAME: one word for all that NAME is built from. No program is built from a must-fail edit.
+# stamp_of NAME: one word for all that NAME is built from. No program is built from a must-fail edit, nor from what an earlier check kept.
 stamp_of() (
     set -o pipefail
     lines=$(crates_below "$1") && cd "$root/crates" || exit
     mapfile -t crates < <(cut -d: -f1 <<<"$lines")
     {
         echo "$lines"
-        find "${crates[@]}" -name must-fail -prune -o -type f -print0 | LC_ALL=C sort -z | xargs -0 sha256sum
+        find "${crates[@]}" \( -name must-fail -o -name out \) -prune -o -type f -print0 | LC_ALL=C sort -z | xargs -0 sha256sum
     } | sha256sum | cut -d' ' -f1
 )
 
@@ -61,10 +61,11 @@ build() {
     lock "$kept/lock"
     [ ! -x "$program" ] || return 0
     echo "$me: proving and building the program, which takes some minutes the first time; all that rt says goes to $log" >&2
-    (cd "$root" && rt check "$1") </dev/null 2>&1 | tee "$log" | show_progress
+    # rt run builds the program and runs it once, here on nothing
+    (cd "$root/crates/$1" && rt run) </dev/null 2>&1 | tee "$log" | show_progress
     [ "${PIPESTATUS[0]}" = 0 ] || fail "the program was not built; $log says why"
     [ "$(stamp_of "$1")" = "$2" ] || fail "the sources changed while they were proved; call again"
-    cp "$root/target/bin/$1" "$program.new" && mv "$program.new" "$program" || fail "$kept cannot be written"
+    cp "$root/crates/$1/out/$1" "$program.new" && mv "$program.new" "$program" || fail "$kept cannot be written"
 }
 
 # prove_program NAME: sets `program` to the program NAME of the sources as they stand.
@@ -74,5 +75,4 @@ prove_program() {
     program=$root/target/proved/$1-$stamp
     [ -x "$program" ] || build "$1" "$stamp"
     exec 9>&-
-    [ "$(uname -m)" = x86_64 ] || need rt "the program is for x86-64 and needs the kit's emulator here"
 }
