@@ -15,8 +15,8 @@ import sys
 
 # An identifier of a proof file: no space, bracket, comma, semicolon, dot or quote.
 WORD = re.compile(r"[^\s(){}\[\].,;:`\"@⌜⌝⟨⟩|]+")
-# A declaration, in a proof file or of a record's field: its name.
-DECLARED = re.compile(r"(?m)^ *(?:\w+ )*?([^\s:(){}.]+)(?: \{[^{}\n]*\})* :")
+# A declaration, in a proof file or of a record's field: its names, of which one line may have several.
+DECLARED = re.compile(r"(?m)^ *(?:(?:abbrev|pub|unfoldable|opaque|pattern) )*((?:[^\s:(){}.]+ )+)(?:\{[^{}\n]*\} )*:")
 # What a file takes from a module: the second part of its path, which is the crate of a path 'Rattle.CRATE..', and the items.
 USE = re.compile(r"\buse \w+\.(\w+)[^\s{;]*\{([^}]*)\}")
 # Names that the prover makes.
@@ -44,6 +44,8 @@ OTHERWISE = {
     "triangle-frames": "frames_of_triangle",
     "read-field": "field_read",
     "isDigit": "is_a_digit",
+    "crossed-with": "crossed_with",
+    "◌crossed-with◌": "◌crossed_with◌",
 }
 
 
@@ -123,7 +125,7 @@ def with_librarys_choice(text):
 
 
 def main(argv):
-    together, olds_of, new, names, declared = [], {}, {}, {}, set()
+    together, olds_of, new, names, declared = [], {}, {}, {}, {"crossed-with"}
     for folder, dirs, files in os.walk("crates"):
         dirs[:] = sorted(d for d in dirs if d != "out")
         for f in sorted(files):
@@ -133,7 +135,7 @@ def main(argv):
             with open(path, encoding="utf-8") as it:
                 olds_of[path] = it.read()
             if f.endswith(".antt"):
-                declared.update(DECLARED.findall(olds_of[path]))
+                declared.update(it for names_of in DECLARED.findall(olds_of[path]) for it in names_of.split())
     for path, old in olds_of.items():
         text, met = turned(old, path.endswith(".rt"), declared)
         text = with_librarys_choice(text)

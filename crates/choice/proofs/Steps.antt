@@ -18,7 +18,7 @@ use Rattle.rules.specs.declared.Primitive.{Primitive}
 use Rattle.rules.specs.declared.Row.{Row}
 use Rattle.rules.specs.declared.Row.TheVariants.{Solid, Union, Inter, Diff}
 use Rattle.rules.specs.Table.{row_count, row_at, solid_of, primitives_before}
-use Rattle.rules.specs.Choices.{inOf, expansion}
+use Rattle.rules.specs.Choices.{in_of, expansion}
 use Rattle.rules.specs.Tree.{row_tree, tree_at, tree_of}
 use Rattle.laws.specs.Sound.{Sound}
 use Rattle.laws.specs.Plans.{Plan, either, both, plan, count}
@@ -155,7 +155,7 @@ as_step t row p h g = subst (IsStep t row p) g h
 
 pub expansion_ways : (t : List ℤ) → expansion (tree_of t) ≡ count (root_plan t)
 unfolding plan_at
-expansion_ways t = ap length (choices_ways inOf (tree_of t)) ∙ ways_count (plan inOf (tree_of t))
+expansion_ways t = ap length (choices_ways in_of (tree_of t)) ∙ ways_count (plan in_of (tree_of t))
 
 -- ---- bits, row by row
 

@@ -5,13 +5,13 @@ use Rattle.rules.specs.declared.Primitive.{Primitive}
 use Rattle.rules.specs.declared.Row.TheVariants.{Solid}
 use Rattle.rules.specs.Table.{row_count, row_at, primitives_before}
 use Rattle.rules.specs.Tree.{tree_at}
-use Rattle.rules.specs.Choices.{Side, inOf, out_of}
+use Rattle.rules.specs.Choices.{Side, in_of, out_of}
 use Rattle.laws.specs.Plans.{Plan, with_it, without, either, both, plan, count}
 use Rattle.choice.specs.declared.Step.{Step}
 use Rattle.choice.specs.declared.Step.TheVariants.{With, Without, Either, Both}
 
 abbrev pub side_of : Bool → Side
-side_of true = inOf
+side_of true = in_of
 side_of false = out_of
 
 unfoldable pub plan_at : List ℤ → ℕ → Bool → Plan

@@ -6,7 +6,7 @@ pub mod told;
 
 ghost use Rattle.std.specs.Prelude.{◌+◌, ◌<◌, ◌≡◌, get_or};
 ghost use Rattle.rules.specs.Boxes.{common_box};
-ghost use Rattle.rules.specs.Choices.{inOf, choices, expansion};
+ghost use Rattle.rules.specs.Choices.{in_of, choices, expansion};
 ghost use Rattle.rules.specs.Inside.{bounds};
 ghost use Rattle.rules.specs.Products.{product_box};
 ghost use Rattle.rules.specs.Table.{row_count, primitives_before, primitives};
@@ -130,7 +130,7 @@ pub fn way(table: &[i32], bits: &[u64; 127], counts: &mut [u64; 254], k: u64) ->
     requires numbered { Numbered table.now bits.now }
     requires remembered { Remembered table.now counts.old }
     requires k_bound { k < expansion (tree_of table.now) }
-    ensures { (result ≡ get_or (choices inOf (tree_of table.now)) k nothing) × Remembered table.now counts.new }
+    ensures { (result ≡ get_or (choices in_of (tree_of table.now)) k nothing) × Remembered table.now counts.new }
 {
     choice::choose(table, bits, counts, table::root(table), true, k)
 }

@@ -22,7 +22,7 @@ use Rattle.rules.specs.declared.Row.{Row}
 use Rattle.rules.specs.declared.Row.TheVariants.{Solid, Union, Inter, Diff}
 use Rattle.rules.specs.Table.{row_count, row_at, solid_of, primitives_before, primitives}
 use Rattle.rules.specs.Tree.{Tree, solid, union, inter, diff, row_tree, tree_at}
-use Rattle.rules.specs.Choices.{Side, inOf, out_of}
+use Rattle.rules.specs.Choices.{Side, in_of, out_of}
 use Rattle.rules.specs.Verdict.{children_of}
 use Rattle.laws.specs.Plans.{plan, mask, Apart}
 use Rattle.laws.specs.Sound.{RowRight, Sound}
@@ -52,11 +52,11 @@ module _ (a b : ℕ) where
 
 -- the primitives of a tree: its plan has the same on either side
 abbrev held : Tree → ℕ
-held tree = mask (plan inOf tree)
+held tree = mask (plan in_of tree)
 
 held_by : (s : Side) (tree : Tree) → mask (plan s tree) ≡ held tree
 unfolding mask plan
-held_by inOf tree = refl
+held_by in_of tree = refl
 held_by out_of (solid i p) = refl
 held_by out_of (union l r) = ap₂ bit_or (held_by out_of l) (held_by out_of r)
 held_by out_of (inter l r) = ap₂ bit_or (held_by out_of l) (held_by out_of r)
@@ -81,16 +81,16 @@ module _ (l r : Tree) where
 
     joined_apart : (whole : Tree) → Joins l r whole → (s : Side) → Apart (plan s whole)
     unfolding Apart plan
-    joined_apart whole by_union inOf = parts inOf inOf
+    joined_apart whole by_union in_of = parts in_of in_of
     joined_apart whole by_union out_of = parts out_of out_of
-    joined_apart whole by_inter inOf = parts inOf inOf
+    joined_apart whole by_inter in_of = parts in_of in_of
     joined_apart whole by_inter out_of = parts out_of out_of
-    joined_apart whole by_diff inOf = parts inOf out_of
-    joined_apart whole by_diff out_of = parts out_of inOf
+    joined_apart whole by_diff in_of = parts in_of out_of
+    joined_apart whole by_diff out_of = parts out_of in_of
 
 solid_apart : (i : ℕ) (p : Primitive) (s : Side) → Apart (plan s (solid i p))
 unfolding Apart plan
-solid_apart i p inOf = tt
+solid_apart i p in_of = tt
 solid_apart i p out_of = tt
 
 one_apart : (n x : ℕ) → x < 2 ^ n → bit_and (2 ^ n) x ≡ 0

@@ -19,7 +19,7 @@ use Rattle.rules.specs.declared.Primitive.{Primitive}
 use Rattle.rules.specs.declared.Product.{Product}
 use Rattle.rules.specs.declared.Window.{Window}
 use Rattle.rules.specs.Boxes.{window_box, empty, share}
-use Rattle.rules.specs.Choices.{choices, inOf}
+use Rattle.rules.specs.Choices.{choices, in_of}
 use Rattle.rules.specs.Products.{box_of, product_box, stays, trimmed, firsts, products}
 use Rattle.rules.specs.Tree.{Tree}
 use Rattle.laws.specs.Survivors.{pruned, survivors}
@@ -230,10 +230,10 @@ module _ (w : Window) (solids : List Primitive) where
         ∙ sym (chosen_places (in_reach c.plain) solids c.plain l)
         ∙ ap (λ (r : ℕ). eqb (bit_and c.plain r) c.plain) (sym (reach_places c.plain))
 
-    pub products_survivors : (tree : Tree) → All (λ c. c.plain < 2 ^ length solids) (choices inOf tree)
-        → products w solids tree ≡ survivors (alive_in w solids) (reach_in w solids) (choices inOf tree)
+    pub products_survivors : (tree : Tree) → All (λ c. c.plain < 2 ^ length solids) (choices in_of tree)
+        → products w solids tree ≡ survivors (alive_in w solids) (reach_in w solids) (choices in_of tree)
     unfolding products survivors
-    products_survivors tree h = ap firsts (kept_same (stays w solids) (λ c. alive_in w solids c.plain) (trimmed w solids) prune (choices inOf tree) agree)
+    products_survivors tree h = ap firsts (kept_same (stays w solids) (λ c. alive_in w solids c.plain) (trimmed w solids) prune (choices in_of tree) agree)
       where
         prune : Product → Product
         prune = pruned (alive_in w solids) (reach_in w solids)
@@ -241,5 +241,5 @@ module _ (w : Window) (solids : List Primitive) where
         Agree : Product → Type 0
         Agree c = (stays w solids c ≡ alive_in w solids c.plain) × (stays w solids c ≡ true → trimmed w solids c ≡ prune c)
 
-        agree : All Agree (choices inOf tree)
-        agree = all_map (λ c. c.plain < 2 ^ length solids) Agree (λ c l. (alive_exact c l, trimmed_pruned c)) (choices inOf tree) h
+        agree : All Agree (choices in_of tree)
+        agree = all_map (λ c. c.plain < 2 ^ length solids) Agree (λ c l. (alive_exact c l, trimmed_pruned c)) (choices in_of tree) h

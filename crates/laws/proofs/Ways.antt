@@ -17,45 +17,45 @@ use Rattle.ground.proofs.Lists.{map_at}
 use Rattle.ground.proofs.Masks.{Within, within_self, within_none, within_left, within_right, within_or}
 use Rattle.rules.specs.declared.Product.{Product}
 use Rattle.rules.specs.Tree.{Tree, solid, union, inter, diff}
-use Rattle.rules.specs.Choices.{Side, inOf, out_of, joined, ◌crossed-with◌, choices}
+use Rattle.rules.specs.Choices.{Side, in_of, out_of, joined, ◌crossed_with◌, choices}
 use Rattle.laws.specs.Plans.{Plan, with_it, without, either, both, plan, ways, count, kth, mask}
 
 pub choices_ways : (s : Side) (t : Tree) → choices s t ≡ ways (plan s t)
 unfolding choices ways plan
-choices_ways inOf (solid i s) = refl
+choices_ways in_of (solid i s) = refl
 choices_ways out_of (solid i s) = refl
-choices_ways inOf (union l r) = ap₂ ◌++◌ (choices_ways inOf l) (choices_ways inOf r)
-choices_ways out_of (union l r) = ap₂ ◌crossed-with◌ (choices_ways out_of l) (choices_ways out_of r)
-choices_ways inOf (inter l r) = ap₂ ◌crossed-with◌ (choices_ways inOf l) (choices_ways inOf r)
+choices_ways in_of (union l r) = ap₂ ◌++◌ (choices_ways in_of l) (choices_ways in_of r)
+choices_ways out_of (union l r) = ap₂ ◌crossed_with◌ (choices_ways out_of l) (choices_ways out_of r)
+choices_ways in_of (inter l r) = ap₂ ◌crossed_with◌ (choices_ways in_of l) (choices_ways in_of r)
 choices_ways out_of (inter l r) = ap₂ ◌++◌ (choices_ways out_of l) (choices_ways out_of r)
-choices_ways inOf (diff l r) = ap₂ ◌crossed-with◌ (choices_ways inOf l) (choices_ways out_of r)
-choices_ways out_of (diff l r) = ap₂ ◌++◌ (choices_ways out_of l) (choices_ways inOf r)
+choices_ways in_of (diff l r) = ap₂ ◌crossed_with◌ (choices_ways in_of l) (choices_ways out_of r)
+choices_ways out_of (diff l r) = ap₂ ◌++◌ (choices_ways out_of l) (choices_ways in_of r)
 
 -- ---- two lists crossed
 
-length_crossed : (xs ys : List Product) → length (xs crossed-with ys) ≡ length xs * length ys
-unfolding ◌crossed-with◌
+length_crossed : (xs ys : List Product) → length (xs crossed_with ys) ≡ length xs * length ys
+unfolding ◌crossed_with◌
 length_crossed xs [] = sym (mul-zero (length xs))
 length_crossed xs (y ∷ ys) =
-    let e = length-append (map (λ x. joined x y) xs) (xs crossed-with ys) in
+    let e = length-append (map (λ x. joined x y) xs) (xs crossed_with ys) in
     let m = length-map xs (λ x. joined x y) in
     omega (arith, e, m, length_crossed xs ys, mul-suc (length xs) (length ys))
 
 crossed_at : (d : Product) (xs ys : List Product) (i j : ℕ) → i < length xs → j < length ys
-    → get_or (xs crossed-with ys) (j * length xs + i) d ≡ joined (get_or xs i d) (get_or ys j d)
-unfolding ◌crossed-with◌
+    → get_or (xs crossed_with ys) (j * length xs + i) d ≡ joined (get_or xs i d) (get_or ys j d)
+unfolding ◌crossed_with◌
 crossed_at d xs [] i j hi hj = absurd (not-suc-le-zero hj)
 crossed_at d xs (y ∷ ys) i zero hi hj =
     let m : length (map (λ x. joined x y) xs) ≡ length xs = length-map xs (λ x. joined x y) in
     let s : zero * length xs + i ≡ i = omega (arith, zero-mul (length xs)) in
-    ap (λ (n : ℕ). get_or (map (λ x. joined x y) xs ++ (xs crossed-with ys)) n d) s
-    ∙ get_or-append (map (λ x. joined x y) xs) (xs crossed-with ys) d i (omega arith)
+    ap (λ (n : ℕ). get_or (map (λ x. joined x y) xs ++ (xs crossed_with ys)) n d) s
+    ∙ get_or-append (map (λ x. joined x y) xs) (xs crossed_with ys) d i (omega arith)
     ∙ map_at (λ x. joined x y) d d xs i hi
 crossed_at d xs (y ∷ ys) i (suc j) hi hj =
     let m : length (map (λ x. joined x y) xs) ≡ length xs = length-map xs (λ x. joined x y) in
     let s : suc j * length xs + i ≡ length (map (λ x. joined x y) xs) + (j * length xs + i) = omega (arith, suc-mul j (length xs)) in
-    ap (λ (n : ℕ). get_or (map (λ x. joined x y) xs ++ (xs crossed-with ys)) n d) s
-    ∙ get_or-append-add (map (λ x. joined x y) xs) (xs crossed-with ys) (j * length xs + i) d
+    ap (λ (n : ℕ). get_or (map (λ x. joined x y) xs ++ (xs crossed_with ys)) n d) s
+    ∙ get_or-append-add (map (λ x. joined x y) xs) (xs crossed_with ys) (j * length xs + i) d
     ∙ crossed_at d xs ys i j hi (le_of_suc-le-suc hj)
 
 -- ---- how many
@@ -152,7 +152,7 @@ ways_kth (both a b) k d h =
     let i : k % count a < count a = place_left (count a) (count b) k h in
     let j : k / count a < count b = place_right (count a) (count b) k h in
     let s : k ≡ k / count a * length (ways a) + k % count a = rw (ways_count a) (sym (div-add-mod' k (count a))) in
-    ap (λ (n : ℕ). get_or (ways a crossed-with ways b) n d) s
+    ap (λ (n : ℕ). get_or (ways a crossed_with ways b) n d) s
     ∙ crossed_at d (ways a) (ways b) (k % count a) (k / count a) (rw (ways_count a) i) (rw (ways_count b) j)
     ∙ ap₂ joined (ways_kth a (k % count a) d i) (ways_kth b (k / count a) d j)
 

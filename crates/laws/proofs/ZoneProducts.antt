@@ -15,7 +15,7 @@ use Rattle.rules.specs.declared.Product.{Product}
 use Rattle.rules.specs.declared.Refusal.{Refusal}
 use Rattle.rules.specs.declared.Window.{Window}
 use Rattle.rules.specs.declared.Written.{Written}
-use Rattle.rules.specs.Choices.{choices, inOf}
+use Rattle.rules.specs.Choices.{choices, in_of}
 use Rattle.rules.specs.ListCalls.{window_refusal, zone_list, make_refusal, ListMade}
 use Rattle.rules.specs.Outcome.{leave, over}
 use Rattle.rules.specs.Products.{products}
@@ -43,17 +43,17 @@ ways_below p n h = all_by_place (λ c. c.plain < 2 ^ n) (kth p 0) (ways p) at
         subst (λ (x : Product). x.plain < 2 ^ n) (sym (ways_kth p k (kth p 0) m)) below
 
 -- every choice of the root names primitives of the table only
-pub plain_in_table : (t : List ℤ) → Sound t → All (λ c. c.plain < 2 ^ length (primitives t)) (choices inOf (tree_of t))
+pub plain_in_table : (t : List ℤ) → Sound t → All (λ c. c.plain < 2 ^ length (primitives t)) (choices in_of (tree_of t))
 plain_in_table t S =
-    subst (All (λ c. c.plain < 2 ^ length (primitives t))) (sym (choices_ways inOf (tree_of t)))
-    (ways_below (plan inOf (tree_of t)) (length (primitives t)) (mask_in_table t S (row_count t - 1) (omega (arith, S.some_row)) inOf))
+    subst (All (λ c. c.plain < 2 ^ length (primitives t))) (sym (choices_ways in_of (tree_of t)))
+    (ways_below (plan in_of (tree_of t)) (length (primitives t)) (mask_in_table t S (row_count t - 1) (omega (arith, S.some_row)) in_of))
 
 -- the products are the list of the ways of choosing, by what shares a point with what
 pub products_are_survivors : (t : List ℤ) (w : Window) → Sound t → window_refusal w ≡ none
-    → products w (primitives t) (tree_of t) ≡ survivors (alive_in w (primitives t)) (reach_in w (primitives t)) (ways (plan inOf (tree_of t)))
+    → products w (primitives t) (tree_of t) ≡ survivors (alive_in w (primitives t)) (reach_in w (primitives t)) (ways (plan in_of (tree_of t)))
 products_are_survivors t w S e =
     products_survivors w (primitives t) (window_filled w e) (tree_of t) (plain_in_table t S)
-    ∙ ap (survivors (alive_in w (primitives t)) (reach_in w (primitives t))) (choices_ways inOf (tree_of t))
+    ∙ ap (survivors (alive_in w (primitives t)) (reach_in w (primitives t))) (choices_ways in_of (tree_of t))
 
 -- ---- what a call that wrote left
 

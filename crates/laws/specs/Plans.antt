@@ -3,21 +3,21 @@ use Rattle.std.specs.Prelude.{ℕ, ◌+◌, ◌-◌, ◌*◌, ◌/◌, ◌%◌, 
 use Rattle.std.specs.Int.Bits.{bit_and, bit_or}
 use Rattle.rules.specs.declared.Product.{Product}
 use Rattle.rules.specs.Tree.{Tree, solid, union, inter, diff}
-use Rattle.rules.specs.Choices.{Side, inOf, out_of, joined, ◌crossed-with◌}
+use Rattle.rules.specs.Choices.{Side, in_of, out_of, joined, ◌crossed_with◌}
 
 pub data Plan : Type 0 where
   with_it without : ℕ → Plan
   either both : Plan → Plan → Plan
 
 unfoldable pub plan : Side → Tree → Plan
-plan inOf (solid i s) = with_it i
+plan in_of (solid i s) = with_it i
 plan out_of (solid i s) = without i
-plan inOf (union left right) = either (plan inOf left) (plan inOf right)
+plan in_of (union left right) = either (plan in_of left) (plan in_of right)
 plan out_of (union left right) = both (plan out_of left) (plan out_of right)
-plan inOf (inter left right) = both (plan inOf left) (plan inOf right)
+plan in_of (inter left right) = both (plan in_of left) (plan in_of right)
 plan out_of (inter left right) = either (plan out_of left) (plan out_of right)
-plan inOf (diff left right) = both (plan inOf left) (plan out_of right)
-plan out_of (diff left right) = either (plan out_of left) (plan inOf right)
+plan in_of (diff left right) = both (plan in_of left) (plan out_of right)
+plan out_of (diff left right) = either (plan out_of left) (plan in_of right)
 
 abbrev pub only : ℕ → Product
 only i = record { plain = 2 ^ i; cuts = 0 }
@@ -34,7 +34,7 @@ unfoldable pub ways : Plan → List Product
 ways (with_it i) = only i ∷ []
 ways (without i) = except i ∷ []
 ways (either a b) = ways a ++ ways b
-ways (both a b) = ways a crossed-with ways b
+ways (both a b) = ways a crossed_with ways b
 
 unfoldable pub count : Plan → ℕ
 count (with_it i) = 1

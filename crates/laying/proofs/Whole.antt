@@ -11,7 +11,7 @@ use lib.IntN.{ℤ}
 use lib.ListN.{length, get_or}
 use lib.Seq.{sets, length-sets}
 use Rattle.rules.specs.Table.{row_count, primitives}
-use Rattle.rules.specs.Choices.{inOf}
+use Rattle.rules.specs.Choices.{in_of}
 use Rattle.laws.specs.Survivors.{survivors}
 use Rattle.laws.specs.Plans.{Plan, ways, Apart}
 use Rattle.laws.specs.Reach.{cut_down, meetings}
@@ -33,7 +33,7 @@ module _ (t : List ℤ) (S : Sound t) where
 
   root_apart : Apart (root_plan t)
   unfolding plan_at
-  root_apart = table_apart t S (row_count t - 1) last_row inOf
+  root_apart = table_apart t S (row_count t - 1) last_row in_of
 
   pub few : all_rows t ≤ 127
   few = few_rows t S (row_count t - 1) last_row true

@@ -19,7 +19,7 @@ use Rattle.rules.specs.declared.Product.{Product}
 use Rattle.rules.specs.Table.{row_count, primitives}
 use Rattle.rules.specs.Tree.{Tree, solid, union, inter, diff, nowhere, tree_of}
 use Rattle.rules.specs.Inside.{inside, inside_solid}
-use Rattle.rules.specs.Choices.{Side, inOf, out_of, joined, ◌crossed-with◌, choices, expansion}
+use Rattle.rules.specs.Choices.{Side, in_of, out_of, joined, ◌crossed_with◌, choices, expansion}
 use Rattle.rules.specs.Form.{Form, leaf, ◌∪◌, ◌∩◌, ◌∖◌, form_of, holds_at, leaves}
 use Rattle.laws.specs.Placed.{Placed}
 use Rattle.laws.specs.Plans.{plan, mask, only, except}
@@ -34,12 +34,12 @@ use Rattle.paper.proofs.Crossing.{length_cross}
 use Rattle.paper.proofs.Products.{runs_room}
 
 -- ---- the choices
-crossed : (xs ys : List Product) → xs crossed-with ys ≡ cross joined xs ys
-unfolding ◌crossed-with◌
+crossed : (xs ys : List Product) → xs crossed_with ys ≡ cross joined xs ys
+unfolding ◌crossed_with◌
 crossed xs [] = refl
 crossed xs (y ∷ ys) = ap (λ (l : List Product). map (λ x. joined x y) xs ++ l) (crossed xs ys)
 
-both_crossed : {a b x y : List Product} → a ≡ x → b ≡ y → a crossed-with b ≡ cross joined x y
+both_crossed : {a b x y : List Product} → a ≡ x → b ≡ y → a crossed_with b ≡ cross joined x y
 both_crossed {a} {b} {x} {y} e f = crossed a b ∙ ap₂ (λ (u v : List Product). cross joined u v) e f
 
 both_listed : {a b x y : List Product} → a ≡ x → b ≡ y → a ++ b ≡ x ++ y
@@ -47,22 +47,22 @@ both_listed {a} {b} {x} {y} e f = ap₂ (λ (u v : List Product). u ++ v) e f
 
 -- a side as a test
 abbrev is_in : Side → Bool
-is_in inOf = true
+is_in in_of = true
 is_in out_of = false
 
 choices_ways : (T : Tree) (s : Side) → choices s T ≡ ways joined only except (form_of T) (is_in s)
 unfolding choices form_of ways
-choices_ways (solid i p) inOf = refl
+choices_ways (solid i p) in_of = refl
 choices_ways (solid i p) out_of = refl
-choices_ways (union l r) inOf = both_listed (choices_ways l inOf) (choices_ways r inOf)
+choices_ways (union l r) in_of = both_listed (choices_ways l in_of) (choices_ways r in_of)
 choices_ways (union l r) out_of = both_crossed (choices_ways l out_of) (choices_ways r out_of)
-choices_ways (inter l r) inOf = both_crossed (choices_ways l inOf) (choices_ways r inOf)
+choices_ways (inter l r) in_of = both_crossed (choices_ways l in_of) (choices_ways r in_of)
 choices_ways (inter l r) out_of = both_listed (choices_ways l out_of) (choices_ways r out_of)
-choices_ways (diff l r) inOf = both_crossed (choices_ways l inOf) (choices_ways r out_of)
-choices_ways (diff l r) out_of = both_listed (choices_ways l out_of) (choices_ways r inOf)
+choices_ways (diff l r) in_of = both_crossed (choices_ways l in_of) (choices_ways r out_of)
+choices_ways (diff l r) out_of = both_listed (choices_ways l out_of) (choices_ways r in_of)
 
-pub choices_form : (T : Tree) → choices inOf T ≡ ways joined only except (form_of T) true
-choices_form T = choices_ways T inOf
+pub choices_form : (T : Tree) → choices in_of T ≡ ways joined only except (form_of T) true
+choices_form T = choices_ways T in_of
 
 or_assoc : (a b c : ℕ) → bit_or (bit_or a b) c ≡ bit_or a (bit_or b c)
 or_assoc a b c = same_places _ _ (λ i. simp has_or (bool.or_assoc (has i a) (has i b) (has i c)))
@@ -103,14 +103,14 @@ expansion_count T = ap length (choices_form T) ∙ ways_many joined only except 
 -- ---- the leaves
 plan_leaves : (T : Tree) (s : Side) → leaves (form_of T) ≡ expansion.leaves (plan s T)
 unfolding leaves form_of plan expansion.leaves
-plan_leaves (solid i p) inOf = refl
+plan_leaves (solid i p) in_of = refl
 plan_leaves (solid i p) out_of = refl
-plan_leaves (union l r) inOf = ap₂ ◌+◌ (plan_leaves l inOf) (plan_leaves r inOf)
+plan_leaves (union l r) in_of = ap₂ ◌+◌ (plan_leaves l in_of) (plan_leaves r in_of)
 plan_leaves (union l r) out_of = ap₂ ◌+◌ (plan_leaves l out_of) (plan_leaves r out_of)
-plan_leaves (inter l r) inOf = ap₂ ◌+◌ (plan_leaves l inOf) (plan_leaves r inOf)
+plan_leaves (inter l r) in_of = ap₂ ◌+◌ (plan_leaves l in_of) (plan_leaves r in_of)
 plan_leaves (inter l r) out_of = ap₂ ◌+◌ (plan_leaves l out_of) (plan_leaves r out_of)
-plan_leaves (diff l r) inOf = ap₂ ◌+◌ (plan_leaves l inOf) (plan_leaves r out_of)
-plan_leaves (diff l r) out_of = ap₂ ◌+◌ (plan_leaves l out_of) (plan_leaves r inOf)
+plan_leaves (diff l r) in_of = ap₂ ◌+◌ (plan_leaves l in_of) (plan_leaves r out_of)
+plan_leaves (diff l r) out_of = ap₂ ◌+◌ (plan_leaves l out_of) (plan_leaves r in_of)
 
 -- ---- the points
 -- which primitives hold a point
@@ -129,8 +129,8 @@ module _ (t : List ℤ) (S : Sound t) where
   pub leaves_few : leaves (form_of (tree_of t)) ≤ length (primitives t)
   leaves_few =
       let root : row_count t - 1 < row_count t = omega (arith, S.some_row) in
-      let m = ones-le (length (primitives t)) (mask (plan inOf (tree_of t))) (mask_in_table t S (row_count t - 1) root inOf) in
-      omega (arith, plan_leaves (tree_of t) inOf, leaves_ones (plan inOf (tree_of t)) (table_apart t S (row_count t - 1) root inOf), m)
+      let m = ones-le (length (primitives t)) (mask (plan in_of (tree_of t))) (mask_in_table t S (row_count t - 1) root in_of) in
+      omega (arith, plan_leaves (tree_of t) in_of, leaves_ones (plan in_of (tree_of t)) (table_apart t S (row_count t - 1) root in_of), m)
 
   pub root_inside : (p : Point) → holds_at (holding (primitives t) p) (form_of (tree_of t)) ≡ inside (tree_of t) p
   root_inside p = form_inside (primitives t) p (tree_of t) (tree_placed t S)

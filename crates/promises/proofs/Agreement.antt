@@ -16,7 +16,7 @@ use Rattle.rules.specs.declared.Primitive.{Primitive}
 use Rattle.rules.specs.declared.Product.{Product}
 use Rattle.rules.specs.Tree.{Tree, solid, union, inter, diff, nowhere}
 use Rattle.rules.specs.Inside.{inside, inside_solid}
-use Rattle.rules.specs.Choices.{Side, inOf, out_of, choices, joined, ◌crossed-with◌}
+use Rattle.rules.specs.Choices.{Side, in_of, out_of, choices, joined, ◌crossed_with◌}
 use Rattle.rules.specs.ListInside.{inside_product}
 use Rattle.laws.specs.Placed.{Placed}
 use Rattle.laws.proofs.Spaces.{and_swap}
@@ -93,11 +93,11 @@ module _ (test : Product → Bool) (split : (a b : Product) → test (joined a b
   any_joined [] r = refl
   any_joined (l ∷ lefts) r = ap₂ ◌||◌ (split l r) (any_joined lefts r) ∙ sym (and-or_distrib_right (test l) (any_of test lefts) (test r))
 
-  any_crossed : (lefts rights : List Product) → any_of test (lefts crossed-with rights) ≡ (any_of test lefts && any_of test rights)
-  unfolding any_of ◌crossed-with◌
+  any_crossed : (lefts rights : List Product) → any_of test (lefts crossed_with rights) ≡ (any_of test lefts && any_of test rights)
+  unfolding any_of ◌crossed_with◌
   any_crossed lefts [] = sym (and-false (any_of test lefts))
   any_crossed lefts (r ∷ rights) =
-      any_append test (map (λ l. joined l r) lefts) (lefts crossed-with rights)
+      any_append test (map (λ l. joined l r) lefts) (lefts crossed_with rights)
       ∙ ap₂ ◌||◌ (any_joined lefts r) (any_crossed lefts rights)
       ∙ sym (and-or_distrib_left (any_of test lefts) (test r) (any_of test rights))
 
@@ -105,7 +105,7 @@ module _ (test : Product → Bool) (split : (a b : Product) → test (joined a b
 
 -- what a side asks of the answer
 abbrev on : Side → Bool → Bool
-on inOf answer = answer
+on in_of answer = answer
 on out_of answer = not answer
 
 module _ (solids : List Primitive) (p : Point) where
@@ -134,12 +134,12 @@ module _ (solids : List Primitive) (p : Point) where
   in_either : (l r : List Product) {a b : Bool} → any_of holding l ≡ a → any_of holding r ≡ b → any_of holding (l ++ r) ≡ (a || b)
   in_either l r e f = any_append holding l r ∙ ap₂ ◌||◌ e f
 
-  in_both : (l r : List Product) {a b : Bool} → any_of holding l ≡ a → any_of holding r ≡ b → any_of holding (l crossed-with r) ≡ (a && b)
+  in_both : (l r : List Product) {a b : Bool} → any_of holding l ≡ a → any_of holding r ≡ b → any_of holding (l crossed_with r) ≡ (a && b)
   in_both l r e f = any_crossed holding holding_joined l r ∙ ap₂ ◌&&◌ e f
 
   side_agrees : (side : Side) (tree : Tree) → Placed solids tree → any_of holding (choices side tree) ≡ on side (inside tree p)
   unfolding any_of choices inside Placed
-  side_agrees inOf (solid i s) h =
+  side_agrees in_of (solid i s) h =
       or-false (holding (record { plain = 2 ^ i; cuts = 0 }))
       ∙ by_all (record { plain = 2 ^ i; cuts = 0 })
       ∙ ap₂ ◌&&◌ (all_of_one in_it nowhere solids i h.0 ∙ ap in_it h.1) (all_of_none out_of_it solids)
@@ -148,23 +148,23 @@ module _ (solids : List Primitive) (p : Point) where
       or-false (holding (record { plain = 0; cuts = 2 ^ i }))
       ∙ by_all (record { plain = 0; cuts = 2 ^ i })
       ∙ ap₂ ◌&&◌ (all_of_none in_it solids) (all_of_one out_of_it nowhere solids i h.0 ∙ ap out_of_it h.1)
-  side_agrees inOf (union left right) h =
-      in_either (choices inOf left) (choices inOf right) (side_agrees inOf left h.0) (side_agrees inOf right h.1)
+  side_agrees in_of (union left right) h =
+      in_either (choices in_of left) (choices in_of right) (side_agrees in_of left h.0) (side_agrees in_of right h.1)
   side_agrees out_of (union left right) h =
       in_both (choices out_of left) (choices out_of right) (side_agrees out_of left h.0) (side_agrees out_of right h.1)
       ∙ sym (not_or (inside left p) (inside right p))
-  side_agrees inOf (inter left right) h =
-      in_both (choices inOf left) (choices inOf right) (side_agrees inOf left h.0) (side_agrees inOf right h.1)
+  side_agrees in_of (inter left right) h =
+      in_both (choices in_of left) (choices in_of right) (side_agrees in_of left h.0) (side_agrees in_of right h.1)
   side_agrees out_of (inter left right) h =
       in_either (choices out_of left) (choices out_of right) (side_agrees out_of left h.0) (side_agrees out_of right h.1)
       ∙ sym (not_and (inside left p) (inside right p))
-  side_agrees inOf (diff left right) h =
-      in_both (choices inOf left) (choices out_of right) (side_agrees inOf left h.0) (side_agrees out_of right h.1)
+  side_agrees in_of (diff left right) h =
+      in_both (choices in_of left) (choices out_of right) (side_agrees in_of left h.0) (side_agrees out_of right h.1)
   side_agrees out_of (diff left right) h =
-      in_either (choices out_of left) (choices inOf right) (side_agrees out_of left h.0) (side_agrees inOf right h.1)
+      in_either (choices out_of left) (choices in_of right) (side_agrees out_of left h.0) (side_agrees in_of right h.1)
       ∙ sym (not_and (inside left p) (not (inside right p)) ∙ ap (λ (b : Bool). not (inside left p) || b) (not-not (inside right p)))
 
   module _ (tree : Tree) (placed : Placed solids tree) where
     -- a point is inside a tree just if it is inside one of the choices in it
-    pub choices_inside : inside tree p ≡ any_of (λ c. inside_product solids c p) (choices inOf tree)
-    choices_inside = sym (side_agrees inOf tree placed)
+    pub choices_inside : inside tree p ≡ any_of (λ c. inside_product solids c p) (choices in_of tree)
+    choices_inside = sym (side_agrees in_of tree placed)

@@ -14,7 +14,7 @@ use Rattle.rules.specs.declared.Primitive.{Primitive}
 use Rattle.rules.specs.declared.Product.{Product}
 use Rattle.rules.specs.declared.Window.{Window}
 use Rattle.rules.specs.Boxes.{window_box, empty}
-use Rattle.rules.specs.Choices.{choices, inOf}
+use Rattle.rules.specs.Choices.{choices, in_of}
 use Rattle.rules.specs.ListWords.{list_of, product_count, product_at}
 use Rattle.rules.specs.Products.{products}
 use Rattle.rules.specs.Table.{primitives}
@@ -29,12 +29,12 @@ use Rattle.laws.proofs.Words.{list_length, list_count, list_product}
 
 -- for a window that is not empty, and choices of the table's primitives only; whatever stands after the list
 module _ (t : List ℤ) (w : Window) (filled : empty (window_box w) ≡ false)
-    (of-table : All (λ c. c.plain < 2 ^ length (primitives t)) (choices inOf (tree_of t))) (rest : List ℕ) where
+    (of-table : All (λ c. c.plain < 2 ^ length (primitives t)) (choices in_of (tree_of t))) (rest : List ℕ) where
   abbrev solids : List Primitive
   solids = primitives t
 
   abbrev cs : List Product
-  cs = choices inOf (tree_of t)
+  cs = choices in_of (tree_of t)
 
   abbrev ps : List Product
   ps = products w solids (tree_of t)

@@ -22,7 +22,7 @@ use Rattle.rules.specs.declared.Product.{Product}
 use Rattle.rules.specs.declared.Refusal.{Refusal}
 use Rattle.rules.specs.declared.Window.{Window}
 use Rattle.rules.specs.Boxes.{window_box, share}
-use Rattle.rules.specs.Choices.{inOf, out_of, expansion}
+use Rattle.rules.specs.Choices.{in_of, out_of, expansion}
 use Rattle.rules.specs.ListCalls.{most_choices, window_refusal, zone_list}
 use Rattle.rules.specs.ListFaults.{bounds_refusals, plain_right, cuts_right, product_refusals, list_refusal, primitives_refusal}
 use Rattle.rules.specs.ListWords.{most_word, raised, word, bounds_word, list_of, list_window, product_count, place_of, product_at}
@@ -92,15 +92,15 @@ some_mask (either a b) e = some_mask a (or_nothing (mask a) (mask b) e)
 some_mask (both a b) e = some_mask a (or_nothing (mask a) (mask b) e)
 
 -- a choice of a tree names some primitive uncomplemented: of a difference, one of the left part
-some_plain : (tree : Tree) (k : ℕ) → k < count (plan inOf tree) → (kth (plan inOf tree) k).plain ≡ 0 → ⊥
+some_plain : (tree : Tree) (k : ℕ) → k < count (plan in_of tree) → (kth (plan in_of tree) k).plain ≡ 0 → ⊥
 unfolding plan count kth
 some_plain (solid i s) k h e = omega (arith, pow_pos i)
-some_plain (union l r) k h e = by_part (λ c. c.plain ≡ 0 → ⊥) (plan inOf l) (plan inOf r) (some_plain l) (some_plain r) k h e
+some_plain (union l r) k h e = by_part (λ c. c.plain ≡ 0 → ⊥) (plan in_of l) (plan in_of r) (some_plain l) (some_plain r) k h e
 some_plain (inter l r) k h e =
-    let n = count (plan inOf l) in
-    some_plain l (k % n) (place_left n (count (plan inOf r)) k h) (or_nothing _ (kth (plan inOf r) (k / n)).plain e)
+    let n = count (plan in_of l) in
+    some_plain l (k % n) (place_left n (count (plan in_of r)) k h) (or_nothing _ (kth (plan in_of r) (k / n)).plain e)
 some_plain (diff l r) k h e =
-    let n = count (plan inOf l) in
+    let n = count (plan in_of l) in
     some_plain l (k % n) (place_left n (count (plan out_of r)) k h) (or_nothing _ (kth (plan out_of r) (k / n)).plain e)
 
 -- a choice cuts no primitive that it has uncomplemented
@@ -152,13 +152,13 @@ right_cuts n c r = rw (lt-ltb c.cuts (2 ^ n) r.cuts_in, eq-eqb (bit_and c.plain 
 
 module _ (t : List ℤ) (S : Sound t) where
   abbrev root : Plan
-  root = plan inOf (tree_of t)
+  root = plan in_of (tree_of t)
 
   last_row : row_count t - 1 < row_count t
   last_row = omega (arith, S.some_row)
 
   root_below : mask root < 2 ^ length (primitives t)
-  root_below = mask_in_table t S (row_count t - 1) last_row inOf
+  root_below = mask_in_table t S (row_count t - 1) last_row in_of
 
   some_primitive : 1 ≤ length (primitives t)
   some_primitive = go (length (primitives t)) root_below
@@ -172,14 +172,14 @@ module _ (t : List ℤ) (S : Sound t) where
     some = some_plain (tree_of t) i m;
     plain_in = within_below (length (primitives t)) (kth root i).plain (mask root) (kth_within root i m).0 root_below;
     cuts_in = within_below (length (primitives t)) (kth root i).cuts (mask root) (kth_within root i m).1 root_below;
-    apart = cuts_others root (table_apart t S (row_count t - 1) last_row inOf) i m;
+    apart = cuts_others root (table_apart t S (row_count t - 1) last_row in_of) i m;
   })
     where
       m : i < count root
-      m = subst (λ (n : ℕ). i < n) (ap (λ (cs : List Product). length cs) (choices_ways inOf (tree_of t)) ∙ ways_count root) l
+      m = subst (λ (n : ℕ). i < n) (ap (λ (cs : List Product). length cs) (choices_ways in_of (tree_of t)) ∙ ways_count root) l
 
       is : choice t i ≡ kth root i
-      is = ap (λ (cs : List Product). get_or cs i nothing) (choices_ways inOf (tree_of t)) ∙ ways_kth root i nothing m
+      is = ap (λ (cs : List Product). get_or cs i nothing) (choices_ways in_of (tree_of t)) ∙ ways_kth root i nothing m
 
 -- ---- the checks
 
@@ -247,8 +247,8 @@ module _ (t : List ℤ) (w : Window) (S : Sound t) (fine : window_refusal w ≡ 
   -- no more products than choices
   products_few : length ps ≤ expansion (tree_of t)
   products_few =
-      rw (products_are_survivors t w S fine, choices_ways inOf (tree_of t))
-      (survivors_length (alive_in w (primitives t)) (reach_in w (primitives t)) (ways (plan inOf (tree_of t))))
+      rw (products_are_survivors t w S fine, choices_ways in_of (tree_of t))
+      (survivors_length (alive_in w (primitives t)) (reach_in w (primitives t)) (ways (plan in_of (tree_of t))))
 
   -- a list that was made passes the checks; only so many choices give a list at all
   pub made_sound : expansion (tree_of t) ≤ most_choices → list_refusal (zone_list t w ++ rest) ≡ none

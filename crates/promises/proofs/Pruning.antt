@@ -21,7 +21,7 @@ use Rattle.rules.specs.declared.Row.{Row}
 use Rattle.rules.specs.declared.Row.TheVariants.{Solid, Union, Inter, Diff}
 use Rattle.rules.specs.declared.Window.{Window}
 use Rattle.rules.specs.Boxes.{Box, holds, window_box, common, common_box, empty, share}
-use Rattle.rules.specs.Choices.{choices, inOf}
+use Rattle.rules.specs.Choices.{choices, in_of}
 use Rattle.rules.specs.Inside.{inside_solid}
 use Rattle.rules.specs.ListInside.{inside_product}
 use Rattle.rules.specs.Products.{box_of, product_box, stays, trimmed, same, firsts, products}
@@ -177,11 +177,11 @@ module _ (w : Window) (solids : List Primitive) (right : All Right solids) (p : 
 
   -- some product holds the point just if some choice does
   pub pruning_keeps : (tree : Tree)
-      → any_of (λ c. inside_product solids c p) (products w solids tree) ≡ any_of (λ c. inside_product solids c p) (choices inOf tree)
+      → any_of (λ c. inside_product solids c p) (products w solids tree) ≡ any_of (λ c. inside_product solids c p) (choices in_of tree)
   unfolding products
   pruning_keeps tree =
       let holding : Product → Bool = λ c. inside_product solids c p in
-      let cs = choices inOf tree in
+      let cs = choices in_of tree in
       any_firsts holding (map (trimmed w solids) (keep_if (stays w solids) cs))
       ∙ any_made holding (trimmed w solids) (stays w solids) cs
       ∙ (λ i. any_of (λ c. choice_keeps c i) cs)

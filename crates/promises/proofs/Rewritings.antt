@@ -16,7 +16,7 @@ use Rattle.rules.specs.declared.Refusal.{Refusal}
 use Rattle.rules.specs.declared.Window.{Window}
 use Rattle.rules.specs.declared.Written.{Written}
 use Rattle.rules.specs.declared.Written.TheVariants.{Wrote}
-use Rattle.rules.specs.Choices.{choices, inOf, expansion}
+use Rattle.rules.specs.Choices.{choices, in_of, expansion}
 use Rattle.rules.specs.Form.{Form, leaf, ◌∪◌, form_of, holds_at, leaves}
 use Rattle.rules.specs.ListCalls.{zone_list, ListMade}
 use Rattle.rules.specs.ListWords.{list_of}
@@ -108,7 +108,7 @@ finished_right t S few many = record {
     run : Runs (form_of (tree_of t)) (finished_tree t)
     run = normalize_runs (form_of (tree_of t))
 
-    exact : products_of (finished_tree t) ≡ choices inOf (tree_of t)
+    exact : products_of (finished_tree t) ≡ choices in_of (tree_of t)
     exact = runs_products joins_products run ∙ sym (choices_form (tree_of t))
 
 -- ---- the call

@@ -2,7 +2,7 @@
 use Rattle.std.specs.Prelude.{ℕ, ◌≤◌, ◌<◌, Bool, true, List, ◌≡◌, ℤ, length, get_or}
 use Rattle.rules.specs.declared.Product.{Product}
 use Rattle.rules.specs.declared.Window.{Window}
-use Rattle.rules.specs.Choices.{choices, inOf, expansion}
+use Rattle.rules.specs.Choices.{choices, in_of, expansion}
 use Rattle.rules.specs.ListWords.{place_of, product_at, product_count}
 use Rattle.rules.specs.Products.{stays, trimmed, products}
 use Rattle.rules.specs.Table.{primitives}
@@ -11,7 +11,7 @@ use Rattle.laws.specs.Plans.{nothing}
 
 -- choice i, one of the `expansion (tree_of t)` that there are
 abbrev pub choice : List ℤ → ℕ → Product
-choice t i = get_or (choices inOf (tree_of t)) i nothing
+choice t i = get_or (choices in_of (tree_of t)) i nothing
 
 module _ (t : List ℤ) (w : Window) where
   -- choice i stays in the window

@@ -15,7 +15,7 @@ use Rattle.rules.specs.declared.Searched.{Searched}
 use Rattle.rules.specs.declared.Window.{Window}
 use Rattle.rules.specs.declared.Written.{Written}
 use Rattle.rules.specs.Boxes.{holds, everywhere, window_box}
-use Rattle.rules.specs.Choices.{choices, inOf, expansion}
+use Rattle.rules.specs.Choices.{choices, in_of, expansion}
 use Rattle.rules.specs.Form.{Form, holds_at, leaves, Rule}
 use Rattle.rules.specs.Frame.{code_at, held_codes, point_of, frame_refusal}
 use Rattle.rules.specs.ListCalls.{most_choices, window_refusal, make_refusal, ListMade, list_point_refusal, ListLocated, list_search_refusal, ListSearched}
@@ -273,7 +273,7 @@ pub record Promise2 : Type 0 where
 module _ (t : List ℤ) (w : Window) where
   -- every way of choosing, written out; then those that stay in the window, without the cuts that miss them; then, of equal ones, the first
   abbrev pub pruned_afterwards : List Product
-  pruned_afterwards = firsts (map (trimmed w (primitives t)) (keep_if (stays w (primitives t)) (choices inOf (tree_of t))))
+  pruned_afterwards = firsts (map (trimmed w (primitives t)) (keep_if (stays w (primitives t)) (choices in_of (tree_of t))))
 
   -- the room that it takes, in words
   abbrev pub needed : ℕ

@@ -6,7 +6,7 @@ use Rattle.rules.specs.declared.Point.{Point}
 use Rattle.rules.specs.declared.Primitive.{Primitive}
 use Rattle.rules.specs.declared.Product.{Product}
 use Rattle.rules.specs.declared.Window.{Window}
-use Rattle.rules.specs.Choices.{choices, inOf}
+use Rattle.rules.specs.Choices.{choices, in_of}
 use Rattle.rules.specs.Form.{Form, ◌∪◌, ◌∩◌, ◌∖◌, form_of, holds_at, leaves, Rule}
 use Rattle.rules.specs.Inside.{inside_solid, inside}
 use Rattle.rules.specs.NormalForm.{is_normal, products_of}
@@ -49,7 +49,7 @@ pub record Rewritten (t : List ℤ) (F : Form) : Type 0 where
   -- .. in the order of the procedure of document 000
   pub by_procedure : F ≡ normalize (form_of (tree_of t))
   -- its products are the choices of the zone's tree, in order, each as often
-  pub exact : products_of F ≡ choices inOf (tree_of t)
+  pub exact : products_of F ≡ choices in_of (tree_of t)
   -- at every point it holds what the zone's tree holds
   pub points : (p : Point) → holds_at (holding t p) F ≡ inside (tree_of t) p
   -- no leaf is lost, and 4,096 are enough

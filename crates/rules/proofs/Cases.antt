@@ -16,7 +16,7 @@ use Rattle.rules.specs.Verdict.{table_refusal}
 use Rattle.rules.specs.Tree.{trees, tree_of}
 use Rattle.rules.specs.Inside.{inside}
 use Rattle.rules.specs.Frame.{first_inside, inside_count}
-use Rattle.rules.specs.Choices.{choices, ◌crossed-with◌, expansion}
+use Rattle.rules.specs.Choices.{choices, ◌crossed_with◌, expansion}
 use Rattle.rules.specs.Products.{firsts, products}
 use Rattle.rules.specs.Refusals.{refuse}
 use Rattle.rules.specs.Told.{Told, fine, sound, inside as stands_inside, outside, clear, hit, tell}
@@ -136,5 +136,5 @@ cases =
     ∷ []
 
 pub cases_hold : map (λ (c : Case). c.says) cases ≡ map (λ (c : Case). c.expected) cases
-unfolding table_refusal trees inside first_inside inside_count newest choices ◌crossed-with◌ firsts products from all_of any_of keep_if count_if find_if first_of selected places_where flat_map
+unfolding table_refusal trees inside first_inside inside_count newest choices ◌crossed_with◌ firsts products from all_of any_of keep_if count_if find_if first_of selected places_where flat_map
 cases_hold = refl

@@ -33,7 +33,7 @@ use Rattle.rules.specs.Verdict.{table_refusal}
 use Rattle.rules.specs.Tree as tree
 use Rattle.rules.specs.Tree.{Tree, solid, trees, tree_of}
 use Rattle.rules.specs.Inside.{inside}
-use Rattle.rules.specs.Choices.{choices, inOf, out_of, joined, ◌crossed-with◌, expansion}
+use Rattle.rules.specs.Choices.{choices, in_of, out_of, joined, ◌crossed_with◌, expansion}
 use Rattle.rules.specs.Products.{stays, trimmed, firsts, products}
 use Rattle.rules.specs.ListWords.{raised, list_of, word, product_count}
 use Rattle.rules.specs.ListFaults.{list_refusal}
@@ -92,7 +92,7 @@ unfolding table_refusal trees inside first_inside inside_count from all_of any_o
 right_tree_search = record { answer = refl }
 
 pub right_make : ListMade q window room q_list (written.Wrote 12)
-unfolding table_refusal trees choices ◌crossed-with◌ firsts products zone_list from all_of keep_if count_if find_if first_of selected places_where flat_map
+unfolding table_refusal trees choices ◌crossed_with◌ firsts products zone_list from all_of keep_if count_if find_if first_of selected places_where flat_map
 right_make = record { answer = refl; buffer = refl }
 
 pub right_list_point : ListLocated q q_list (at 8 0) located.Inside
@@ -381,7 +381,7 @@ abbrev early : Window
 early = record { xlo = columns.lo; xhi = columns.hi; ylo = codes.lo; yhi = codes.hi; zlo = negsuc 4; zhi = negsuc 0 }
 
 pub right_early : ListMade q early room (0 ∷ 0 ∷ 65535 ∷ 0 ∷ 65535 ∷ 1048571 ∷ 1048575 ∷ 4 ∷ 7 ∷ 7 ∷ 7 ∷ 7 ∷ []) (written.Wrote 8)
-unfolding table_refusal trees choices ◌crossed-with◌ firsts products zone_list from all_of keep_if count_if find_if first_of selected places_where flat_map
+unfolding table_refusal trees choices ◌crossed_with◌ firsts products zone_list from all_of keep_if count_if find_if first_of selected places_where flat_map
 right_early = record { answer = refl; buffer = refl }
 
 pub frames_as_columns : {after : List ℕ} {r : Written} → ListMade q early room after r → word after 5 ≡ raised Column early.zlo → ⊥
@@ -394,7 +394,7 @@ abbrev cut_far : List ℤ
 cut_far = box nought (pos 9) ++ (box nought (pos 9) ++ (union 0 1 ++ (box (pos 40) (pos 49) ++ diff 2 3)))
 
 pub right_cut_far : ListMade cut_far window room (list_header 2 3 ++ (1 ∷ 0 ∷ 2 ∷ 0 ∷ [])) (written.Wrote 12)
-unfolding table_refusal trees choices ◌crossed-with◌ firsts products zone_list from all_of keep_if count_if find_if first_of selected places_where flat_map
+unfolding table_refusal trees choices ◌crossed_with◌ firsts products zone_list from all_of keep_if count_if find_if first_of selected places_where flat_map
 right_cut_far = record { answer = refl; buffer = refl }
 
 abbrev pub first_pruned : Window → List Primitive → List Product → List Product
@@ -402,15 +402,15 @@ first_pruned w solids [] = []
 first_pruned w solids (c ∷ cs) = trimmed w solids c ∷ cs
 
 abbrev pub raw_list : List ℤ → Window → List ℕ
-raw_list t w = list_of w (length (primitives t)) (first_pruned w (primitives t) (keep_if (stays w (primitives t)) (choices inOf (tree_of t))))
+raw_list t w = list_of w (length (primitives t)) (first_pruned w (primitives t) (keep_if (stays w (primitives t)) (choices in_of (tree_of t))))
 
 -- its second product keeps the cut
 pub raw_cut_far : raw_list cut_far window ≡ list_header 2 3 ++ (1 ∷ 0 ∷ 2 ∷ 4 ∷ [])
-unfolding trees choices ◌crossed-with◌ from keep_if find_if selected places_where flat_map
+unfolding trees choices ◌crossed_with◌ from keep_if find_if selected places_where flat_map
 raw_cut_far = refl
 
 pub others_raw : (r : Written) → ListMade cut_far window room (over (raw_list cut_far window) room) r → ⊥
-unfolding trees choices ◌crossed-with◌ from keep_if find_if selected places_where flat_map
+unfolding trees choices ◌crossed_with◌ from keep_if find_if selected places_where flat_map
 others_raw r h = let e : ◌≡◌ {A = ℕ} 4 0 = ap (λ (list : List ℕ). get_or list 11 0) (list_made_settled h right_cut_far).1 in omega arith
 
 -- ---- one that tests a cut against the box of its left subtree: in A ∩ (B - C) the cut C meets B, and misses what A leaves of it
@@ -419,7 +419,7 @@ abbrev barred : List ℤ
 barred = box (pos 5) (pos 9) ++ (box nought (pos 9) ++ (box nought (pos 3) ++ (diff 1 2 ++ inter 0 3)))
 
 pub right_barred : ListMade barred window room (list_header 1 3 ++ (3 ∷ 0 ∷ 7 ∷ 7 ∷ [])) (written.Wrote 10)
-unfolding table_refusal trees choices ◌crossed-with◌ firsts products zone_list from all_of keep_if count_if find_if first_of selected places_where flat_map
+unfolding table_refusal trees choices ◌crossed_with◌ firsts products zone_list from all_of keep_if count_if find_if first_of selected places_where flat_map
 right_barred = record { answer = refl; buffer = refl }
 
 -- the choices in a tree; those of a difference keep, of the right side's cuts, the ones that meet the box of the left side's choice
@@ -430,7 +430,7 @@ module _ (w : Window) (solids : List Primitive) where
   unfoldable pub cut_at_left : Tree → List Product
   cut_at_left (solid i s) = record { plain = 2 ^ i; cuts = 0 } ∷ []
   cut_at_left (tree.union left right) = cut_at_left left ++ cut_at_left right
-  cut_at_left (tree.inter left right) = cut_at_left left crossed-with cut_at_left right
+  cut_at_left (tree.inter left right) = cut_at_left left crossed_with cut_at_left right
   cut_at_left (tree.diff left right) = flat_map (λ r. map (λ l. cut_from l r) (cut_at_left left)) (choices out_of right)
 
 abbrev pub left_list : List ℤ → Window → List ℕ
@@ -438,11 +438,11 @@ left_list t w = list_of w (length (primitives t)) (firsts (keep_if (stays w (pri
 
 -- its product keeps the cut
 pub left_barred : left_list barred window ≡ list_header 1 3 ++ (3 ∷ 4 ∷ [])
-unfolding trees choices cut_at_left ◌crossed-with◌ firsts from keep_if find_if selected places_where flat_map
+unfolding trees choices cut_at_left ◌crossed_with◌ firsts from keep_if find_if selected places_where flat_map
 left_barred = refl
 
 pub cut_against_left : (r : Written) → ListMade barred window room (over (left_list barred window) room) r → ⊥
-unfolding trees choices cut_at_left ◌crossed-with◌ firsts from keep_if find_if selected places_where flat_map
+unfolding trees choices cut_at_left ◌crossed_with◌ firsts from keep_if find_if selected places_where flat_map
 cut_against_left r h = let e : ◌≡◌ {A = ℕ} 4 0 = ap (λ (list : List ℕ). get_or list 9 0) (list_made_settled h right_barred).1 in omega arith
 
 -- ---- one that leaves a triangle's edges out, and one that wants its corners one way round
@@ -464,7 +464,7 @@ one_way_round_only h = let e = tree_located_settled h right_turned_round in neve
 -- ---- one that tests a cut against the triangle, which it misses, and not against its box
 
 pub right_corner_cut : ListMade corner_cut window room (list_header 1 2 ++ (1 ∷ 2 ∷ 7 ∷ 7 ∷ [])) (written.Wrote 10)
-unfolding table_refusal trees choices ◌crossed-with◌ firsts products zone_list from all_of keep_if count_if find_if first_of selected places_where flat_map
+unfolding table_refusal trees choices ◌crossed_with◌ firsts products zone_list from all_of keep_if count_if find_if first_of selected places_where flat_map
 right_corner_cut = record { answer = refl; buffer = refl }
 
 pub cut_against_the_triangle : (r : Written) → ListMade corner_cut window room (list_header 1 2 ++ (1 ∷ 0 ∷ 7 ∷ 7 ∷ [])) r → ⊥
@@ -500,7 +500,7 @@ rows_of_part_far = refl
 
 -- pruning leaves A ∩ C of it
 pub pruned_part_far : products window (primitives part_far) (tree_of part_far) ≡ products_of (leaf 0 ∩ leaf 2)
-unfolding trees choices ◌crossed-with◌ firsts products product_of products_of from keep_if find_if selected places_where flat_map
+unfolding trees choices ◌crossed_with◌ firsts products product_of products_of from keep_if find_if selected places_where flat_map
 pruned_part_far = refl
 
 module _ (before work : List ℤ) (fits : rewrite_words ≤ length before) (work-fits : rewrite_words ≤ length work) where
@@ -521,15 +521,15 @@ module _ (before work : List ℤ) (fits : rewrite_words ≤ length before) (work
       nothing = rw (sound, few, many, le-leb rewrite_words (length before) fits, le-leb rewrite_words (length work) work-fits) refl
 
   pub right_rewrite : TreeRewritten q before (over q_rows before) work zeros (written.Wrote 27)
-  unfolding table_refusal trees choices ◌crossed-with◌ from all_of count_if find_if first_of flat_map
+  unfolding table_refusal trees choices ◌crossed_with◌ from all_of count_if find_if first_of flat_map
   right_rewrite = right_at q q_rows refl refl refl rows_of_q
 
   pub right_still_fits : TreeRewritten still_fits before (over (rows_from 0 (((leaf 0 ∩ leaf 1) ∖ leaf 2) ∩ leaf 3)) before) work zeros (written.Wrote 21)
-  unfolding table_refusal trees choices ◌crossed-with◌ rows_from rows_in from all_of count_if find_if first_of flat_map
+  unfolding table_refusal trees choices ◌crossed_with◌ rows_from rows_in from all_of count_if find_if first_of flat_map
   right_still_fits = right_at still_fits _ refl refl refl still_fits_finished
 
   pub right_part_far : TreeRewritten part_far before (over (rows_from 0 ((leaf 0 ∩ leaf 2) ∪ (leaf 1 ∩ leaf 2))) before) work zeros (written.Wrote 21)
-  unfolding table_refusal trees choices ◌crossed-with◌ rows_from rows_in from all_of count_if find_if first_of flat_map
+  unfolding table_refusal trees choices ◌crossed_with◌ rows_from rows_in from all_of count_if find_if first_of flat_map
   right_part_far = right_at part_far _ refl refl refl rows_of_part_far
 
   -- each word of a tree's area is that of the right one

@@ -11,7 +11,7 @@ use Rattle.rules.specs.Ranges.{around}
 use Rattle.rules.specs.Boxes.{Box, window_box, common_box, empty, share}
 use Rattle.rules.specs.Inside.{bounds}
 use Rattle.rules.specs.Tree.{Tree}
-use Rattle.rules.specs.Choices.{choices, inOf}
+use Rattle.rules.specs.Choices.{choices, in_of}
 
 -- a primitive's box: the six bounds; of a drum, centre plus and minus radii and its frames; of a triangle, what lies around its corners and its frames
 abbrev pub box_of : Primitive → Box
@@ -51,4 +51,4 @@ firsts [] = []
 firsts (c ∷ cs) = c ∷ keep_if (λ later. not (same c later)) (firsts cs)
 
 unfoldable pub products : Window → List Primitive → Tree → List Product
-products w solids tree = firsts (map (trimmed w solids) (keep_if (stays w solids) (choices inOf tree)))
+products w solids tree = firsts (map (trimmed w solids) (keep_if (stays w solids) (choices in_of tree)))

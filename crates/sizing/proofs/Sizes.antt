@@ -13,7 +13,7 @@ use lib.Seq.{get_or-set_same, get_or-set_other}
 use Rattle.std.specs.Prelude.{if◌then◌else◌}
 use Rattle.rules.specs.Table.{row_count, primitives}
 use Rattle.rules.specs.Tree.{Tree, solid, union, inter, diff, tree_at}
-use Rattle.rules.specs.Choices.{inOf, out_of}
+use Rattle.rules.specs.Choices.{in_of, out_of}
 use Rattle.laws.specs.Plans.{Plan, with_it, without, either, both, plan, mask}
 use Rattle.laws.specs.Sound.{Sound}
 use Rattle.laws.proofs.Apart.{table_apart, mask_in_table, few_primitives}
@@ -22,7 +22,7 @@ use Rattle.choice.specs.Steps.{side_of, plan_at}
 use Rattle.rows.specs.Lines.{rows_of}
 use Rattle.sizing.specs.Sizes.{SizedTo}
 
-either_side : (tree : Tree) → rows_of (plan out_of tree) ≡ rows_of (plan inOf tree)
+either_side : (tree : Tree) → rows_of (plan out_of tree) ≡ rows_of (plan in_of tree)
 unfolding plan rows_of
 either_side (solid i s) = refl
 either_side (union left right) = omega (arith, either_side left, either_side right)
