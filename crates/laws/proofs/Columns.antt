@@ -14,6 +14,7 @@ use Rattle.ground.specs.Lists.{below, all_of}
 use Rattle.ground.proofs.Branches.{and_left, and_right, bool_both}
 use Rattle.ground.proofs.Counting.{all_true, all_at_each, first_kept}
 use Rattle.ground.proofs.Order.{le_z_trans, le_z_add}
+use Rattle.rules.specs.declared.Rule.TheVariants as rule
 use Rattle.rules.specs.declared.Place.{Place}
 use Rattle.rules.specs.Ranges.{Span, within, columns, codes, frames}
 use Rattle.rules.specs.Boxes.{holds, everywhere}
@@ -73,19 +74,19 @@ module _ (samples : List ℤ) (place : Place) where
   pub frame_right : frame_refusal samples place ≡ none → FrameRight samples place
   frame_right e =
       let n = length samples in
-      let a = first_kept (refuse_if (eqb n 0 || ltb most_samples n) 12 0) (refuse_unless column_rule 12 1 ∷ refuse_unless (within frames place.frame) 12 2 ∷ []) e in
-      let b = first_kept (refuse_unless column_rule 12 1) (refuse_unless (within frames place.frame) 12 2 ∷ []) a.1 in
-      let c = first_kept (refuse_unless (within frames place.frame) 12 2) [] b.1 in
-      let l = or_false (eqb n 0) (ltb most_samples n) (if_kept (eqb n 0 || ltb most_samples n) 12 0 a.0) in
+      let a = first_kept (refuse_if (eqb n 0 || ltb most_samples n) rule.Frame 0) (refuse_unless column_rule rule.Frame 1 ∷ refuse_unless (within frames place.frame) rule.Frame 2 ∷ []) e in
+      let b = first_kept (refuse_unless column_rule rule.Frame 1) (refuse_unless (within frames place.frame) rule.Frame 2 ∷ []) a.1 in
+      let c = first_kept (refuse_unless (within frames place.frame) rule.Frame 2) [] b.1 in
+      let l = or_false (eqb n 0) (ltb most_samples n) (if_kept (eqb n 0 || ltb most_samples n) rule.Frame 0 a.0) in
       let some : n ≡ 0 → ⊥ = eqb-false n 0 l.0 in
       let few : n ≤ most_samples = ltb-false most_samples n l.1 in
-      let each = all_at_each (λ k. within columns (column place k)) n (unless_kept column_rule 12 1 b.0) in
+      let each = all_at_each (λ k. within columns (column place k)) n (unless_kept column_rule rule.Frame 1 b.0) in
       record {
         some_sample = omega arith;
         not_over = few;
         first_in = ap (within columns) (sym (+ℤ_idr place.first)) ∙ each 0 (omega arith);
         columns_in = each;
-        frame_in = unless_kept (within frames place.frame) 12 2 c.0;
+        frame_in = unless_kept (within frames place.frame) rule.Frame 2 c.0;
       }
 
 -- the point of a sample of 16 bits is in range

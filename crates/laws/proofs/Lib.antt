@@ -1,4 +1,3 @@
-pub mod KindNumbers
 pub mod Soundness
 pub mod Spans
 pub mod Axes
@@ -33,3 +32,4 @@ pub mod Held
 pub mod TextLengths
 pub mod Texts
 pub mod ZoneProducts
+pub mod Turns

@@ -10,6 +10,7 @@ use Rattle.ground.specs.Lists.{first_of}
 use Rattle.ground.proofs.Branches.{and_left, and_right}
 use Rattle.ground.proofs.Counting.{first_kept, none_append}
 use Rattle.ground.proofs.Order.{le_z_trans}
+use Rattle.rules.specs.declared.Rule.TheVariants as rule
 use Rattle.rules.specs.declared.Rectangle.{Rectangle}
 use Rattle.rules.specs.Boxes.{Box}
 use Rattle.rules.specs.Ranges.{Span, within, size_of}
@@ -26,9 +27,9 @@ side_right window side i e =
     let high = within window side.hi in
     let up = le_z side.lo side.hi in
     let few = lt_z (side.hi -ℤ side.lo) (pos most_side) in
-    let one = first_kept (refuse_unless low 6 i) _ e in
-    let two = unless_kept (high && (up && few)) 6 (i + 1) (first_kept (refuse_unless (high && (up && few)) 6 (i + 1)) [] one.1).0 in
-    record { lo_in = unless_kept low 6 i one.0; hi_in = and_left high (up && few) two; sized = record { rises = second high up few two; short = third high up few two } }
+    let one = first_kept (refuse_unless low rule.Bound i) _ e in
+    let two = unless_kept (high && (up && few)) rule.Bound (i + 1) (first_kept (refuse_unless (high && (up && few)) rule.Bound (i + 1)) [] one.1).0 in
+    record { lo_in = unless_kept low rule.Bound i one.0; hi_in = and_left high (up && few) two; sized = record { rises = second high up few two; short = third high up few two } }
 
 pub drawable : (window : Box) (q : Rectangle) → rectangle_refusal window q ≡ none → Drawable window q
 drawable window q e =

@@ -8,6 +8,7 @@ use mathlib.Core.Path.{◌≡◌, refl, sym, subst}
 use Rattle.ground.specs.Lists.{All, rest, first_of, rulings}
 use Rattle.ground.proofs.Counting.{all_made}
 use Rattle.rules.specs.declared.Refusal.{Refusal}
+use Rattle.rules.specs.declared.Rule.{Rule}
 use Rattle.rules.specs.Refusals.{refuse, refuse_if, refuse_unless}
 use Rattle.rules.specs.Told.{Tale, Told, fine, refused, tell}
 
@@ -19,16 +20,16 @@ module _ (P : Refusal → Type 0) where
   pub none_gives : Gives P none
   none_gives = record { each = λ e. let z : ◌≡◌ {A = ℕ} 0 1 = cc in absurd (omega arith) }
 
-  pub refuse_gives : (number value : ℕ) → P (record { number = number; value = value }) → Gives P (refuse number value)
-  refuse_gives number value p = record { each = λ {q} e. let same : record { number = number; value = value } ≡ q = cc in subst P same p }
+  pub refuse_gives : (rule : Rule) (value : ℕ) → P (record { rule = rule; value = value }) → Gives P (refuse rule value)
+  refuse_gives rule value p = record { each = λ {q} e. let same : record { rule = rule; value = value } ≡ q = cc in subst P same p }
 
-  pub if_gives : (b : Bool) (number value : ℕ) → P (record { number = number; value = value }) → Gives P (refuse_if b number value)
-  if_gives true number value p = refuse_gives number value p
-  if_gives false number value p = none_gives
+  pub if_gives : (b : Bool) (rule : Rule) (value : ℕ) → P (record { rule = rule; value = value }) → Gives P (refuse_if b rule value)
+  if_gives true rule value p = refuse_gives rule value p
+  if_gives false rule value p = none_gives
 
-  pub unless_gives : (b : Bool) (number value : ℕ) → P (record { number = number; value = value }) → Gives P (refuse_unless b number value)
-  unless_gives true number value p = none_gives
-  unless_gives false number value p = refuse_gives number value p
+  pub unless_gives : (b : Bool) (rule : Rule) (value : ℕ) → P (record { rule = rule; value = value }) → Gives P (refuse_unless b rule value)
+  unless_gives true rule value p = none_gives
+  unless_gives false rule value p = refuse_gives rule value p
 
   -- the first of several rules that is broken
   pub first_gives : (rules : List (Option Refusal)) → All (Gives P) rules → Gives P (first_of rules)

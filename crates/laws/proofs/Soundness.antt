@@ -11,6 +11,8 @@ use lib.IntN.{ℤ, pos, negsuc}
 use lib.ListN.{length}
 use Rattle.ground.proofs.Branches.{false_true, and_left, and_right}
 use Rattle.ground.proofs.Counting.{rulings_none, first_kept}
+use Rattle.rules.specs.declared.Rule.{Rule}
+use Rattle.rules.specs.declared.Rule.TheVariants as rule
 use Rattle.rules.specs.declared.Kind.{Kind}
 use Rattle.rules.specs.declared.Kind.TheVariants as kind
 use Rattle.rules.specs.declared.Row.{Row}
@@ -23,13 +25,13 @@ use Rattle.laws.specs.Sound.{RowRight, SoundRow, Sound}
 
 -- ---- rules that were kept
 
-pub unless_kept : (b : Bool) (n v : ℕ) → refuse_unless b n v ≡ none → b ≡ true
-unless_kept true n v e = refl
-unless_kept false n v e = cc
+pub unless_kept : (b : Bool) (r : Rule) (v : ℕ) → refuse_unless b r v ≡ none → b ≡ true
+unless_kept true r v e = refl
+unless_kept false r v e = cc
 
-pub if_kept : (b : Bool) (n v : ℕ) → refuse_if b n v ≡ none → b ≡ false
-if_kept true n v e = cc
-if_kept false n v e = refl
+pub if_kept : (b : Bool) (r : Rule) (v : ℕ) → refuse_if b r v ≡ none → b ≡ false
+if_kept true r v e = cc
+if_kept false r v e = refl
 
 pub or_false : (p q : Bool) → (p || q) ≡ false → (p ≡ false) × (q ≡ false)
 or_false true q e = (e, false_true (sym e))
@@ -52,9 +54,9 @@ op_kept op (negsuc l) b row f h = false_true h
 kept_by : (x : Option Kind) (w : ℕ → ℤ) (row : ℕ) → row_refusal_by x w row ≡ none → Kept x w row
 kept_by none w row e = let z : ◌≡◌ {A = ℕ} 0 1 = cc in absurd (omega arith)
 kept_by (some k) w row e =
-    let rules = first_kept (refuse_unless (fields_right k w && spare_right k w) 3 row) (refuse_unless (children_right k w row) 4 row ∷ []) e in
-    let fields : fields_right k w ≡ true = and_left (fields_right k w) (spare_right k w) (unless_kept (fields_right k w && spare_right k w) 3 row rules.0) in
-    let children : children_right k w row ≡ true = unless_kept (children_right k w row) 4 row (first_kept (refuse_unless (children_right k w row) 4 row) [] rules.1).0 in
+    let rules = first_kept (refuse_unless (fields_right k w && spare_right k w) rule.Fields row) (refuse_unless (children_right k w row) rule.Children row ∷ []) e in
+    let fields : fields_right k w ≡ true = and_left (fields_right k w) (spare_right k w) (unless_kept (fields_right k w && spare_right k w) rule.Fields row rules.0) in
+    let children : children_right k w row ≡ true = unless_kept (children_right k w row) rule.Children row (first_kept (refuse_unless (children_right k w row) rule.Children row) [] rules.1).0 in
     go k fields children
   where
     by : {k : Kind} → (r : Row) × (row_by (some k) w ≡ some r) × RowRight row r → Kept (some k) w row
@@ -82,7 +84,7 @@ pub record Whole (t : List ℤ) : Type 0 where
 
 pub whole_table : (t : List ℤ) → length_refusal t ≡ none → Whole t
 whole_table t e =
-    let h = if_kept (not (eqb (length t % row_words) 0) || (eqb (length t) 0 || ltb (most_rows * row_words) (length t))) 1 (length t) e in
+    let h = if_kept (not (eqb (length t % row_words) 0) || (eqb (length t) 0 || ltb (most_rows * row_words) (length t))) rule.Length (length t) e in
     let p = or_false (not (eqb (length t % row_words) 0)) (eqb (length t) 0 || ltb (most_rows * row_words) (length t)) h in
     let q = or_false (eqb (length t) 0) (ltb (most_rows * row_words) (length t)) p.1 in
     let even : length t % row_words ≡ 0 = eqb-true (length t % row_words) 0 (not-false (eqb (length t % row_words) 0) p.0) in
@@ -102,5 +104,5 @@ table_sound t e =
       some_row = w.some_row;
       not_over = w.not_over;
       rows = λ row h. sound_row t row (rulings_none (row_refusal t) (row_count t) b.0 row h);
-      once = λ row h. unless_kept (child_once t row) 5 row (rulings_none (λ r. refuse_unless (child_once t r) 5 r) (row_count t - 1) c.0 row h);
+      once = λ row h. unless_kept (child_once t row) rule.Once row (rulings_none (λ r. refuse_unless (child_once t r) rule.Once r) (row_count t - 1) c.0 row h);
     }

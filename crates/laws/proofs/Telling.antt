@@ -1,4 +1,5 @@
 -- What an answer tells of the rule behind it. Assumes nothing.
+use Rattle.std.specs.Prelude.{Ok, Err}
 use mathlib.Core.Bool.{true, ◌&&◌}
 use mathlib.Core.List.{List, [], ◌∷◌, ◌++◌}
 use mathlib.Core.Option.{Option, none, some}
@@ -6,24 +7,23 @@ use mathlib.Core.Path.{◌≡◌, refl, sym, ap, ap₂, ◌∙◌}
 use Rattle.ground.specs.Lists.{or_else, first_of}
 use Rattle.ground.proofs.Branches.{and_left, and_right}
 use Rattle.ground.proofs.Counting.{or_else_none, first_kept, first_append}
-use Rattle.rules.specs.declared.Checked.{Checked}
-use Rattle.rules.specs.declared.Checked.TheVariants as checked
+use Rattle.rules.specs.declared.Rule.TheVariants as rule
 use Rattle.rules.specs.declared.Point.{Point}
 use Rattle.rules.specs.declared.Refusal.{Refusal}
 use Rattle.rules.specs.Ranges.{within}
 use Rattle.rules.specs.Boxes.{Box, holds}
 use Rattle.rules.specs.Refusals.{refuse_unless}
-use Rattle.rules.specs.Told.{Tale, Told, sound, fine, refused, tell, told_checked}
+use Rattle.rules.specs.Told.{Checked, Tale, Told, sound, fine, refused, tell, told_checked}
 use Rattle.rules.specs.TreeCalls.{point_refusal}
 use Rattle.laws.specs.Checking.{checked_by, first_refused}
 use Rattle.laws.proofs.Soundness.{unless_kept}
 
 -- what a check that went on, or stopped, found
-pub went_on : (x : Option Refusal) → checked.Sound ≡ checked_by x → x ≡ none
+pub went_on : (x : Option Refusal) → (Ok tt) ≡ checked_by x → x ≡ none
 went_on none e = refl
 went_on (some r) e = cc
 
-pub stopped : (x : Option Refusal) {r : Refusal} → checked.Refused r ≡ checked_by x → x ≡ some r
+pub stopped : (x : Option Refusal) {r : Refusal} → Err r ≡ checked_by x → x ≡ some r
 stopped none e = cc
 stopped (some q) {r} e = let s : q ≡ r = cc in ap some s
 
@@ -73,10 +73,10 @@ point_holds b p e =
     let x = within b.x p.x in
     let y = within b.y p.y in
     let z = within b.z p.z in
-    let one = first_kept (refuse_unless x 10 0) (refuse_unless y 10 1 ∷ refuse_unless z 10 2 ∷ []) e in
-    let two = first_kept (refuse_unless y 10 1) (refuse_unless z 10 2 ∷ []) one.1 in
-    let three = first_kept (refuse_unless z 10 2) [] two.1 in
-    rw (unless_kept x 10 0 one.0, unless_kept y 10 1 two.0, unless_kept z 10 2 three.0)
+    let one = first_kept (refuse_unless x rule.Outside 0) (refuse_unless y rule.Outside 1 ∷ refuse_unless z rule.Outside 2 ∷ []) e in
+    let two = first_kept (refuse_unless y rule.Outside 1) (refuse_unless z rule.Outside 2 ∷ []) one.1 in
+    let three = first_kept (refuse_unless z rule.Outside 2) [] two.1 in
+    rw (unless_kept x rule.Outside 0 one.0, unless_kept y rule.Outside 1 two.0, unless_kept z rule.Outside 2 three.0)
 
 -- and a point that a box holds is in on each axis
 pub holds_point : (b : Box) (p : Point) → holds b p ≡ true → point_refusal b p ≡ none

@@ -1,4 +1,5 @@
 -- Zone text and tables go back and forth: a sound table's text is read as that table, and an accepted text is written as it was. Assumes nothing.
+use Rattle.std.specs.Prelude.{Ok}
 use Prim.Native.Nat.{ℕ, zero, suc, ◌+◌, ◌-◌, ◌*◌, ◌≤◌, ◌<◌}
 use native.Mathlib.Omega.{arith}
 use mathlib.Core.Bool.{true, ◌&&◌}
@@ -16,10 +17,10 @@ use Rattle.ground.proofs.Counting.{rulings_none, first_kept}
 use Rattle.ground.proofs.Lists.{all_at, all_map, all_flat_map, flat_map_append}
 use Rattle.ground.proofs.Pieces.{from_length, all_each, all_mapped, all_places, places, map_places, pieces_length, piece_at}
 use Rattle.ground.proofs.Signed.{eq_z_eq}
+use Rattle.rules.specs.declared.Rule.TheVariants as rule
 use Rattle.rules.specs.declared.Kind.{Kind}
 use Rattle.rules.specs.declared.Kind.TheVariants.{Box, Wedge, Drum, Union, Inter, Diff, Triangle}
 use Rattle.rules.specs.declared.Refusal.{Refusal}
-use Rattle.rules.specs.declared.Written.TheVariants.{Wrote}
 use Rattle.rules.specs.Fields.{fields_right, spare_right, children_right}
 use Rattle.rules.specs.Kinds.{kind_number, named_words, kind_of}
 use Rattle.rules.specs.Outcome.{leave}
@@ -34,7 +35,7 @@ use Rattle.rules.proofs.Lines.{no_row}
 use Rattle.rules.proofs.Told.{wrote_none}
 use Rattle.laws.specs.Sound.{Sound}
 use Rattle.ground.proofs.Namings.{next_row}
-use Rattle.laws.proofs.KindNumbers.{number_kind, number_of_kind}
+use Rattle.rules.proofs.KindNumbers.{number_kind, number_of_kind}
 use Rattle.laws.proofs.Soundness.{unless_kept, table_sound}
 use Rattle.laws.proofs.TextLengths.{few_named, Named, text_most}
 
@@ -71,8 +72,8 @@ row_back : (x : Option Kind) (w : ℕ → ℤ) (row : ℕ) → kind_of (w 0) ≡
 unfolding flat_map
 row_back none w row is e = let z : ◌≡◌ {A = ℕ} 0 1 = cc in absurd (omega arith)
 row_back (some k) w row is e =
-    let rules = first_kept (refuse_unless (fields_right k w && spare_right k w) 3 row) (refuse_unless (children_right k w row) 4 row ∷ []) e in
-    let words = unless_kept (fields_right k w && spare_right k w) 3 row rules.0 in
+    let rules = first_kept (refuse_unless (fields_right k w && spare_right k w) rule.Fields row) (refuse_unless (children_right k w row) rule.Children row ∷ []) e in
+    let words = unless_kept (fields_right k w && spare_right k w) rule.Fields row rules.0 in
     let spare : spare_right k w ≡ true = and_right (fields_right k w) (spare_right k w) words in
     let number : w 0 ≡ pos (kind_number k) = number_of_kind (w 0) is in
     let past = zeros w (1 + named_words k) (row_words - (1 + named_words k)) spare in
@@ -207,7 +208,7 @@ unfolding first_of
 write_fine t room kept fits = rw (kept, le-leb (length (table_text t)) room fits)
 
 -- a text that was accepted: its table lies in the buffer, and is sound
-module _ {text : List ℕ} {room table : List ℤ} {m : ℕ} (read : TextRead text room table (Wrote m)) where
+module _ {text : List ℕ} {room table : List ℤ} {m : ℕ} (read : TextRead text room table (Ok m)) where
   pub read_done : (read_refusal read.form (length room) ≡ none) × (take m table ≡ table_read read.form)
   read_done = wrote_result (read_refusal read.form (length room)) (table_read read.form) room read.answer read.buffer
 

@@ -10,6 +10,7 @@ use lib.Signed.{le_z, lt_z}
 use Rattle.ground.specs.Lists.{first_of}
 use Rattle.ground.proofs.Branches.{and_left, and_right}
 use Rattle.ground.proofs.Counting.{first_kept}
+use Rattle.rules.specs.declared.Rule.TheVariants as rule
 use Rattle.rules.specs.declared.Axis.{Axis}
 use Rattle.rules.specs.declared.Axis.TheVariants.{Column, Code, Frame}
 use Rattle.rules.specs.declared.Refusal.{Refusal}
@@ -36,11 +37,11 @@ axis_right : (axis : Axis) (lo hi : ℤ) (i : ℕ) (others : List (Option Refusa
     → Bounds (range axis) lo hi × (first_of others ≡ none)
 axis_right axis lo hi i others e =
     let s = range axis in
-    let bounds = first_kept (refuse_unless (within s lo) 6 i) (refuse_unless (within s hi && le_z lo hi) 6 (i + 1) ∷ others) e in
-    let upper = first_kept (refuse_unless (within s hi && le_z lo hi) 6 (i + 1)) others bounds.1 in
-    let both = unless_kept (within s hi && le_z lo hi) 6 (i + 1) upper.0 in (
+    let bounds = first_kept (refuse_unless (within s lo) rule.Bound i) (refuse_unless (within s hi && le_z lo hi) rule.Bound (i + 1) ∷ others) e in
+    let upper = first_kept (refuse_unless (within s hi && le_z lo hi) rule.Bound (i + 1)) others bounds.1 in
+    let both = unless_kept (within s hi && le_z lo hi) rule.Bound (i + 1) upper.0 in (
       record {
-        lo_in = unless_kept (within s lo) 6 i bounds.0;
+        lo_in = unless_kept (within s lo) rule.Bound i bounds.0;
         hi_in = and_left (within s hi) (le_z lo hi) both;
         rising = and_right (within s hi) (le_z lo hi) both;
       },

@@ -14,7 +14,6 @@ use Rattle.ground.proofs.Lists.{all_by_place}
 use Rattle.rules.specs.declared.Product.{Product}
 use Rattle.rules.specs.declared.Refusal.{Refusal}
 use Rattle.rules.specs.declared.Window.{Window}
-use Rattle.rules.specs.declared.Written.{Written}
 use Rattle.rules.specs.Choices.{choices, in_of}
 use Rattle.rules.specs.ListCalls.{window_refusal, zone_list, make_refusal, ListMade}
 use Rattle.rules.specs.Outcome.{leave, over}
@@ -29,6 +28,7 @@ use Rattle.laws.proofs.Apart.{mask_in_table}
 use Rattle.laws.proofs.Reach.{products_survivors}
 use Rattle.laws.proofs.Ways.{choices_ways, ways_count, ways_kth, kth_within}
 use Rattle.laws.proofs.Windows.{window_filled}
+use Rattle.rules.specs.Told.{Written}
 
 -- ---- a sound table and a right window
 

@@ -10,15 +10,15 @@ use Rattle.ground.specs.Lists.{first_of}
 use Rattle.ground.proofs.Counting.{first_kept}
 use Rattle.rules.specs.declared.Product.{Product}
 use Rattle.rules.specs.declared.Refusal.{Refusal}
+use Rattle.rules.specs.declared.Rule.TheVariants as rule
 use Rattle.rules.specs.declared.Window.{Window}
-use Rattle.rules.specs.declared.Written.{Written}
 use Rattle.rules.specs.Choices.{expansion}
 use Rattle.rules.specs.ListCalls.{most_choices, window_refusal, zone_list, make_refusal, ListMade}
 use Rattle.rules.specs.ListWords.{word}
 use Rattle.rules.specs.Outcome.{leave}
 use Rattle.rules.specs.Products.{products}
 use Rattle.rules.specs.Table.{primitives}
-use Rattle.rules.specs.Told.{wrote, refused, tell, told_written}
+use Rattle.rules.specs.Told.{Written, wrote, refused, tell, told_written, refused_by}
 use Rattle.rules.specs.Tree.{tree_of}
 use Rattle.rules.specs.Verdict.{table_refusal}
 use Rattle.rules.proofs.Settled.{over_rest}
@@ -48,7 +48,7 @@ module _ (t : List ℤ) (w : Window) (before after : List ℕ) (r : Written) (ma
   -- they do not fit: the refusal names the words that they need, and the buffer is as it was
   pub list_room : table_refusal t ≡ none → window_refusal w ≡ none → expansion (tree_of t) ≤ most_choices
       → length before < 8 + 2 * length (products w (primitives t) (tree_of t))
-      → (told_written r ≡ refused (record { number = 8; value = 8 + 2 * length (products w (primitives t) (tree_of t)) })) × (after ≡ before)
+      → (told_written r ≡ refused_by 8 (8 + 2 * length (products w (primitives t) (tree_of t)))) × (after ≡ before)
   unfolding zone_list first_of
   list_room table window few short = (
     made.answer ∙ ap (λ (x : Option Refusal). tell x (wrote (length (zone_list t w)))) is,
@@ -58,7 +58,7 @@ module _ (t : List ℤ) (w : Window) (before after : List ℕ) (r : Written) (ma
       ps : List Product
       ps = products w (primitives t) (tree_of t)
 
-      is : make_refusal t w (length before) ≡ some (record { number = 8; value = 8 + 2 * length ps })
+      is : make_refusal t w (length before) ≡ some (record { rule = rule.Room; value = 8 + 2 * length ps })
       is =
           rw (
             table,

@@ -1,4 +1,5 @@
 -- A list that was made answers as the tree does at every point of its window, and refuses every other point. Assumes nothing.
+use Rattle.std.specs.Prelude.{Ok}
 use Prim.Native.Nat.{ℕ, zero, suc, ◌+◌, ◌≤◌, ◌<◌}
 use native.Mathlib.Nat.{le_refl}
 use native.Mathlib.Numerals.{add-one}
@@ -18,14 +19,12 @@ use Rattle.ground.proofs.Counting.{numbers_below, kept, all_kept, or_else_none, 
 use Rattle.ground.proofs.Kept.{find_same, count_same}
 use Rattle.ground.proofs.Lists.{all_map, any_same}
 use Rattle.ground.proofs.Order.{le_z_trans}
-use Rattle.rules.specs.declared.Located.{Located}
+use Rattle.rules.specs.declared.Rule.TheVariants as rule
 use Rattle.rules.specs.declared.Place.{Place}
 use Rattle.rules.specs.declared.Point.{Point}
 use Rattle.rules.specs.declared.Product.{Product}
 use Rattle.rules.specs.declared.Refusal.{Refusal}
-use Rattle.rules.specs.declared.Searched.{Searched}
 use Rattle.rules.specs.declared.Window.{Window}
-use Rattle.rules.specs.declared.Written.TheVariants as written
 use Rattle.rules.specs.Boxes.{Box, holds, everywhere, window_box}
 use Rattle.rules.specs.Choices.{expansion}
 use Rattle.rules.specs.Frame.{code_at, held_codes, point_of, frame_refusal, leaves_refusal, sample_inside, first_inside, inside_count}
@@ -37,7 +36,7 @@ use Rattle.rules.specs.ListWords.{list_window}
 use Rattle.rules.specs.Ranges.{Span, within, columns, codes, frames}
 use Rattle.rules.specs.Refusals.{refuse, refuse_unless}
 use Rattle.rules.specs.Table.{primitives}
-use Rattle.rules.specs.Told.{refused, tell, told_located}
+use Rattle.rules.specs.Told.{Located, Searched, refused, tell, told_located, refused_by}
 use Rattle.rules.specs.Tree.{tree_of}
 use Rattle.rules.specs.TreeCalls.{axis_refusal, point_refusal, point_tale, search_tale, tree_point_refusal, TreeLocated, tree_search_refusal, TreeSearched}
 use Rattle.rules.specs.Verdict.{table_refusal}
@@ -58,11 +57,11 @@ use Rattle.laws.proofs.Words.{zone_products}
 -- ---- rules in order
 
 -- a point that is out of a box is out on a first axis
-point_out : (b : Box) (p : Point) → holds b p ≡ false → (axis : ℕ) × (point_refusal b p ≡ refuse 10 axis)
+point_out : (b : Box) (p : Point) → holds b p ≡ false → (axis : ℕ) × (point_refusal b p ≡ refuse rule.Outside axis)
 unfolding first_of
 point_out b p h = go (within b.x p.x) (within b.y p.y) (within b.z p.z) h
   where
-    go : (x y z : Bool) → (x && (y && z)) ≡ false → (axis : ℕ) × (axis_refusal x y z ≡ refuse 10 axis)
+    go : (x y z : Bool) → (x && (y && z)) ≡ false → (axis : ℕ) × (axis_refusal x y z ≡ refuse rule.Outside axis)
     go true true true e = false_true (sym e)
     go true true false e = (2, refl)
     go true false z e = (1, refl)
@@ -77,14 +76,14 @@ sample_held box samples place k = holds box (point_of place k (code_at samples k
 -- a frame whose first k samples are in a box leaves it by the later ones only
 module _ (box : Box) (samples : List ℤ) (place : Place) where
   abbrev pub sample_rule : ℕ → Option Refusal
-  sample_rule k = refuse_unless (sample_held box samples place k) 10 k
+  sample_rule k = refuse_unless (sample_held box samples place k) rule.Outside k
 
   pub held_upto : (k : ℕ) → k ≤ length samples → ((j : ℕ) → j < k → sample_held box samples place j ≡ true)
       → leaves_refusal box samples place ≡ rulings sample_rule k (length samples)
   held_upto zero h held = refl
   held_upto (suc k) h held =
       held_upto k (omega arith) (λ j l. held j (omega arith))
-      ∙ kept sample_rule k (length samples) h (ap (λ (b : Bool). refuse_unless b 10 k) (held k (omega arith)))
+      ∙ kept sample_rule k (length samples) h (ap (λ (b : Bool). refuse_unless b rule.Outside k) (held k (omega arith)))
       ∙ ap (λ (j : ℕ). rulings sample_rule j (length samples)) (add-one k)
 
 -- the points of the codes that a column holds lie in a box that has every sample
@@ -131,7 +130,7 @@ window_in_range w e p h =
 
 -- ---- a list that was made
 
-module _ (t : List ℤ) (w : Window) (before after : List ℕ) (n : ℕ) (made : ListMade t w before after (written.Wrote n)) where
+module _ (t : List ℤ) (w : Window) (before after : List ℕ) (n : ℕ) (made : ListMade t w before after (Ok n)) where
   pub accepted : make_refusal t w (length before) ≡ none
   accepted = (wrote_none (make_refusal t w (length before)) (length (zone_list t w)) n made.answer).0
 
@@ -145,7 +144,7 @@ module _ (t : List ℤ) (w : Window) (before after : List ℕ) (n : ℕ) (made :
   few_choices =
       let count = expansion (tree_of t) in
       let later = (first_kept (window_refusal w) _ (first_kept (table_refusal t) _ accepted).1).1 in
-      leb-true count most_choices (unless_kept (leb count most_choices) 7 count (first_kept (choices_refusal count) _ later).0)
+      leb-true count most_choices (unless_kept (leb count most_choices) rule.Choices count (first_kept (choices_refusal count) _ later).0)
 
   sound : Sound t
   sound = table_sound t table_fine
@@ -201,7 +200,7 @@ module _ (t : List ℤ) (w : Window) (before after : List ℕ) (n : ℕ) (made :
 
   -- a point out of the window is refused: 10, with the first axis on which it is out
   pub list_refuses_outside : (p : Point) → holds (window_box w) p ≡ false → {a : Located} → ListLocated t after p a
-      → (axis : ℕ) × (point_refusal (window_box w) p ≡ refuse 10 axis) × (told_located a ≡ refused (record { number = 10; value = axis }))
+      → (axis : ℕ) × (point_refusal (window_box w) p ≡ refuse rule.Outside axis) × (told_located a ≡ refused_by 10 axis)
   list_refuses_outside p out {a} by-list =
       let (axis, rule) = point_out (window_box w) p out in
       let tale = point_tale (inside_list (primitives t) after p) in (

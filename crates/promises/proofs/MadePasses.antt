@@ -16,6 +16,8 @@ use Rattle.ground.specs.Lists.{All, from, below, or_else, first_of}
 use Rattle.ground.proofs.Counting.{numbers_below}
 use Rattle.ground.proofs.Lists.{all_flat_map}
 use Rattle.ground.proofs.Masks.{has, Within, within_self, within_left, within_has, has_within, has_both, both_has, and_assoc, and_or, or_and}
+use Rattle.rules.specs.declared.Rule.{Rule}
+use Rattle.rules.specs.declared.Rule.TheVariants as rule
 use Rattle.rules.specs.declared.Axis.{Axis}
 use Rattle.rules.specs.declared.Axis.TheVariants.{Column, Code, Frame}
 use Rattle.rules.specs.declared.Product.{Product}
@@ -195,15 +197,15 @@ unfolding first_of
 all_pass [] k = refl
 all_pass (x ∷ xs) k = one_passes x xs k.0 (all_pass xs k.1)
 
-unless_none : (b : Bool) (n v : ℕ) → b ≡ true → refuse_unless b n v ≡ none
-unless_none b n v e = ap (λ (x : Bool). refuse_unless x n v) e
+unless_none : (b : Bool) (r : Rule) (v : ℕ) → b ≡ true → refuse_unless b r v ≡ none
+unless_none b r v e = ap (λ (x : Bool). refuse_unless x r v) e
 
 bounds_pass : (list : List ℕ) (axis : Axis) (lo hi : ℤ) → Bounds (range axis) lo hi
     → word list (bounds_word axis) ≡ raised axis lo → word list (bounds_word axis + 1) ≡ raised axis hi
     → (others : List (Option Refusal)) → first_of others ≡ none → first_of (bounds_refusals list axis ++ others) ≡ none
 bounds_pass list axis lo hi b e f others h =
-    one_passes _ _ (ap (λ (x : Bool). refuse_if x 9 (bounds_word axis)) lower)
-    (one_passes _ others (ap (λ (x : Bool). refuse_if x 9 (bounds_word axis + 1)) upper) h)
+    one_passes _ _ (ap (λ (x : Bool). refuse_if x rule.List (bounds_word axis)) lower)
+    (one_passes _ others (ap (λ (x : Bool). refuse_if x rule.List (bounds_word axis + 1)) upper) h)
   where
     lower : ltb (most_word axis) (word list (bounds_word axis)) ≡ false
     lower = ap (ltb (most_word axis)) e ∙ le-ltb (most_word axis) (raised axis lo) (raised_most axis lo b.lo_in)
@@ -234,8 +236,8 @@ module _ (t : List ℤ) (w : Window) (S : Sound t) (fine : window_refusal w ≡ 
   product_passes : (k : ℕ) → k < product_count buffer → All Passes (product_refusals buffer k)
   product_passes k l =
       let r = product_right k l in (
-        unless_none _ 9 (place_of k) (right_plain (length (primitives t)) (product_at buffer k) r),
-        (unless_none _ 9 (place_of k + 1) (right_cuts (length (primitives t)) (product_at buffer k) r), tt),
+        unless_none _ rule.List (place_of k) (right_plain (length (primitives t)) (product_at buffer k) r),
+        (unless_none _ rule.List (place_of k + 1) (right_cuts (length (primitives t)) (product_at buffer k) r), tt),
       )
 
   products_pass : first_of (flat_map (product_refusals buffer) (below (length ps))) ≡ none
@@ -258,9 +260,9 @@ module _ (t : List ℤ) (w : Window) (S : Sound t) (fine : window_refusal w ≡ 
       let r = window_right w fine in
       let room : place_of (length ps) ≤ length buffer = holds_products.room in
       let counts = ap₂ ◌&&◌ (le-leb (length ps) 65536 (omega (arith, products_few, few))) (le-leb (place_of (length ps)) (length buffer) room) in
-      one_passes _ _ (ap (λ (b : Bool). refuse_if b 9 (length buffer)) (le-ltb (length buffer) 8 (omega (arith, room))))
-      (one_passes _ _ (unless_none _ 9 0 counts)
+      one_passes _ _ (ap (λ (b : Bool). refuse_if b rule.List (length buffer)) (le-ltb (length buffer) 8 (omega (arith, room))))
+      (one_passes _ _ (unless_none _ rule.List 0 counts)
       (bounds_pass buffer Column w.xlo w.xhi r.x refl refl _
       (bounds_pass buffer Code w.ylo w.yhi r.y refl refl _
       (bounds_pass buffer Frame w.zlo w.zhi r.z refl refl _
-      (one_passes _ _ (unless_none _ 9 7 (ap₂ ◌&&◌ (le-leb 1 n (some_primitive t S)) (le-leb n 64 (few_primitives t S)))) products_pass)))))
+      (one_passes _ _ (unless_none _ rule.List 7 (ap₂ ◌&&◌ (le-leb 1 n (some_primitive t S)) (le-leb n 64 (few_primitives t S)))) products_pass)))))

@@ -1,4 +1,5 @@
 -- An answer that meets its call's record is a refusal just where the rules refuse; a hit, or clear, is what the search came to. Assumes nothing.
+use Rattle.std.specs.Prelude.{Err}
 use Prim.Native.Nat.{ℕ}
 use native.Mathlib.Omega.{arith}
 use mathlib.Core.Bool.{Bool, true, false}
@@ -9,16 +10,11 @@ use mathlib.Core.Path.{◌≡◌, refl, sym, ap, subst, ◌∙◌}
 use lib.IntN.{ℤ}
 use lib.ListN.{length}
 use Rattle.ground.specs.Lists.{first_of}
-use Rattle.rules.specs.declared.Checked.TheVariants as checked
-use Rattle.rules.specs.declared.Located.{Located}
 use Rattle.rules.specs.declared.Refusal.{Refusal}
-use Rattle.rules.specs.declared.Searched.{Searched}
-use Rattle.rules.specs.declared.Written.{Written}
-use Rattle.rules.specs.declared.Written.TheVariants as written
 use Rattle.rules.specs.Refusals.{room_refusal}
 use Rattle.rules.specs.TextCalls.{table_read, read_refusal, TextRead}
 use Rattle.rules.specs.TextForm.{TextForm}
-use Rattle.rules.specs.Told.{Tale, Told, sound, clear, hit, wrote, refusal, fine, refused, tell, told_checked, told_located, told_searched, told_written}
+use Rattle.rules.specs.Told.{Located, Searched, Written, Tale, Told, sound, clear, hit, wrote, refusal, fine, refused, tell, told_checked, told_located, told_searched, told_written}
 use Rattle.rules.specs.TreeCalls.{point_tale, search_tale, TableChecked}
 use Rattle.rules.specs.Verdict.{table_refusal}
 use Rattle.rules.proofs.Settled.{checked_settled, form_once}
@@ -39,7 +35,7 @@ NoRefusal tale = (v : ℕ) → refusal v ≡ tale → ⊥
 told_refusal : (x : Option Refusal) (tale : Tale) → NoRefusal tale → {q : Refusal} → refused q ≡ tell x tale → x ≡ some q
 told_refusal none tale other {q} e = absurd (other q.value (tale_of e))
 told_refusal (some p) tale other {q} e =
-    let same = checked_once (checked.Refused q) (checked.Refused p) e in
+    let same = checked_once (Err q) (Err p) e in
     let is : p ≡ q = cc in
     ap some is
 
@@ -103,12 +99,12 @@ search_answers x found count = answers told_searched x (search_tale found count)
 pub writes : {Lent : Type 0} {Meets : Lent → Written → Type 0} {before : Lent} (x : Option Refusal) (n : ℕ)
     → ((after : Lent) (r : Written) → Meets after r → told_written r ≡ tell x (wrote n))
     → ((a b : Lent) (r s : Written) → Meets a r → Meets b s → (r ≡ s) × (a ≡ b))
-    → ((after : Lent) (q : Refusal) → Meets after (written.Refused q) → after ≡ before) → Writes Meets before x
+    → ((after : Lent) (q : Refusal) → Meets after (Err q) → after ≡ before) → Writes Meets before x
 writes {Meets = Meets} x n answer settled keeps = record {
   settled = λ {a} {b} {r} {s} m k. settled a b r s m k;
   refuses = λ {after} {r} m e. refuses told_written x (wrote n) other r (answer after r m) e;
   no_other = λ {after} {r} m e. no_other told_written x (wrote n) other r (answer after r m) e;
-  unchanged = λ {after} {r} {q} m e. keeps after q (subst (Meets after) (written_once r (written.Refused q) e) m);
+  unchanged = λ {after} {r} q m e. keeps after q (subst (Meets after) (written_once r (Err q) e) m);
 }
   where
     other : NoRefusal (wrote n)

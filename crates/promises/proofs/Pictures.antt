@@ -1,4 +1,5 @@
 -- What a picture tells: the word of each place is the newest frame there. Assumes nothing.
+use Rattle.std.specs.Prelude.{Ok}
 use Prim.Native.Nat.{ℕ, ◌+◌, ◌*◌, ◌≤◌, ◌<◌}
 use native.Mathlib.Decide.{dec_le}
 use native.Mathlib.Nat.{mul-le-mul_right}
@@ -24,8 +25,6 @@ use Rattle.rules.specs.declared.Point.{Point}
 use Rattle.rules.specs.declared.Rectangle.{Rectangle}
 use Rattle.rules.specs.declared.Refusal.{Refusal}
 use Rattle.rules.specs.declared.Window.{Window}
-use Rattle.rules.specs.declared.Written.{Written}
-use Rattle.rules.specs.declared.Written.TheVariants.{Wrote}
 use Rattle.rules.specs.Boxes.{Box, holds, window_box}
 use Rattle.rules.specs.ListCalls.{ListMade, accept_refusal, waterfall, waterfall_refusal, PictureDrawn}
 use Rattle.rules.specs.ListFaults.{list_refusal}
@@ -35,7 +34,7 @@ use Rattle.rules.specs.Outcome.{leave}
 use Rattle.rules.specs.Ranges.{Span, within, size_of}
 use Rattle.rules.specs.Table.{primitives}
 use Rattle.rules.specs.Tree.{tree_of}
-use Rattle.rules.specs.Told.{fine, wrote, tell, told_written}
+use Rattle.rules.specs.Told.{Written, fine, wrote, tell, told_written}
 use Rattle.rules.specs.Verdict.{table_refusal}
 use Rattle.rules.specs.Waterfall.{no_frame, columns_of, codes_of, picture_words, rectangle_refusal, or_no_frame, newest, place_word, picture}
 use Rattle.rules.proofs.Told.{wrote_none}
@@ -170,7 +169,7 @@ module _ {t : List ℤ} {list : List ℕ} {q : Rectangle} {before after : List �
 
 -- ---- of a list that was made: by the tree, in its window
 
-pub made_picture : (t : List ℤ) (w : Window) (before list : List ℕ) (words : ℕ) → ListMade t w before list (Wrote words)
+pub made_picture : (t : List ℤ) (w : Window) (before list : List ℕ) (words : ℕ) → ListMade t w before list (Ok words)
     → {q : Rectangle} {room after : List ℤ} {r : Written} {n : ℕ} → PictureDrawn t list q room after r → told_written r ≡ fine (wrote n)
     → AllNewest q (window_box w).z (InTree t) after
 made_picture t w before list words made {q} {after = after} met wrote_it =

@@ -4,7 +4,7 @@ use native.Mathlib.Omega.{arith}
 use mathlib.Core.Bool.{Bool, true, false, ◌&&◌}
 use mathlib.Core.List.{List, [], ◌∷◌, flat_map}
 use mathlib.Core.Option.{Option, none, some}
-use mathlib.Core.Path.{◌≡◌, refl}
+use mathlib.Core.Path.{◌≡◌, refl, sym, subst}
 use borrow.Author.Tests.{leb-true}
 use lib.Dec.{leb}
 use lib.IntN.{ℤ}
@@ -14,16 +14,15 @@ use Rattle.std.specs.Prelude.{if◌then◌else◌}
 use Rattle.ground.proofs.Branches.{and_left, and_right}
 use Rattle.ground.proofs.Lists.{all_append, all_flat_map}
 use Rattle.ground.proofs.Pieces.{all_each}
-use Rattle.rules.specs.declared.Checked.{Checked}
+use Rattle.rules.specs.declared.Rule.{Rule}
+use Rattle.rules.specs.declared.Rule.TheVariants as rule
+use Rattle.rules.specs.Rules.{number_of}
 use Rattle.rules.specs.declared.Kind.{Kind}
-use Rattle.rules.specs.declared.Located.{Located}
 use Rattle.rules.specs.declared.Place.{Place}
 use Rattle.rules.specs.declared.Point.{Point}
 use Rattle.rules.specs.declared.Rectangle.{Rectangle}
 use Rattle.rules.specs.declared.Refusal.{Refusal}
-use Rattle.rules.specs.declared.Searched.{Searched}
 use Rattle.rules.specs.declared.Window.{Window}
-use Rattle.rules.specs.declared.Written.{Written}
 use Rattle.rules.specs.Boxes.{Box, holds}
 use Rattle.rules.specs.Frame.{code_at, point_of, frame_refusal, leaves_refusal, sample_inside, first_inside, inside_count}
 use Rattle.rules.specs.Inside.{inside}
@@ -37,101 +36,35 @@ use Rattle.rules.specs.RewriteCall.{rewrite_refusal, TreeRewritten}
 use Rattle.rules.specs.Table.{primitives, row_count, kind_at, word_at}
 use Rattle.rules.specs.TextCalls.{form_refusal, read_refusal, TextRead, write_refusal, TextWritten}
 use Rattle.rules.specs.TextForm.{TextForm, too_long, faulty, spelt}
-use Rattle.rules.specs.Told.{Tale, Told, sound, fine, tell, told_checked, told_located, told_searched, told_written}
+use Rattle.rules.specs.Told.{Checked, Located, Searched, Written, Tale, Told, sound, fine, tell, told_checked, told_located, told_searched, told_written}
 use Rattle.rules.specs.Tree.{tree_of}
 use Rattle.rules.specs.TreeCalls.{point_refusal, point_tale, search_tale, TableChecked, tree_point_refusal, TreeLocated, tree_search_refusal, TreeSearched}
 use Rattle.rules.specs.Waterfall.{rectangle_refusal}
 use Rattle.rules.specs.Verdict.{row_refusal_by, row_refusal, rows_refusal, child_once, child_refusal, table_refusal}
-use Rattle.laws.proofs.Refusing.{Gives, none_gives, refuse_gives, if_gives, unless_gives, first_gives, rulings_give, told_by}
 use Rattle.promises.specs.Possible.{last_refusal, InTable, Possible}
 
--- ---- a rule refuses nothing, or by a number of the table
+-- ---- a refusal tells the number of its rule, which is one of the table; any other answer is possible where nothing is refused
 
-abbrev Numbered : Refusal → Type 0
-Numbered q = InTable q.number
+number_in_table : (r : Rule) → InTable (number_of r)
+number_in_table rule.Length = (omega arith, omega arith)
+number_in_table rule.Kind = (omega arith, omega arith)
+number_in_table rule.Fields = (omega arith, omega arith)
+number_in_table rule.Children = (omega arith, omega arith)
+number_in_table rule.Once = (omega arith, omega arith)
+number_in_table rule.Bound = (omega arith, omega arith)
+number_in_table rule.Choices = (omega arith, omega arith)
+number_in_table rule.Room = (omega arith, omega arith)
+number_in_table rule.List = (omega arith, omega arith)
+number_in_table rule.Outside = (omega arith, omega arith)
+number_in_table rule.Primitives = (omega arith, omega arith)
+number_in_table rule.Frame = (omega arith, omega arith)
+number_in_table rule.Text = (omega arith, omega arith)
+number_in_table rule.Leaves = (omega arith, omega arith)
+number_in_table rule.Ways = (omega arith, omega arith)
 
-abbrev Tabled : Option Refusal → Type 0
-Tabled = Gives Numbered
-
--- a numeral passes this test by itself
-abbrev in_table : ℕ → Bool
-in_table number = leb 1 number && leb number last_refusal
-
-number_in_table : (number : ℕ) → in_table number ≡ true → InTable number
-number_in_table number i = (
-  leb-true 1 number (and_left (leb 1 number) (leb number last_refusal) i),
-  leb-true number last_refusal (and_right (leb 1 number) (leb number last_refusal) i),
-)
-
-refuse_tabled : (number value : ℕ) → in_table number ≡ true → Tabled (refuse number value)
-refuse_tabled number value i = refuse_gives Numbered number value (number_in_table number i)
-
-if_tabled : (b : Bool) (number value : ℕ) → in_table number ≡ true → Tabled (refuse_if b number value)
-if_tabled b number value i = if_gives Numbered b number value (number_in_table number i)
-
-unless_tabled : (b : Bool) (number value : ℕ) → in_table number ≡ true → Tabled (refuse_unless b number value)
-unless_tabled b number value i = unless_gives Numbered b number value (number_in_table number i)
-
-first_tabled : (rules : List (Option Refusal)) → All Tabled rules → Tabled (first_of rules)
-first_tabled = first_gives Numbered
-
-ruleset tabled = (if_tabled, unless_tabled, refuse_tabled, first_tabled)
-
--- ---- the rules of the calls
-
-row_tabled : (kind : Option Kind) (w : ℕ → ℤ) (row : ℕ) → Tabled (row_refusal_by kind w row)
-row_tabled none w row = search tabled
-row_tabled (some kind) w row = search tabled
-
-rows_tabled : (t : List ℤ) → Tabled (rows_refusal t)
-rows_tabled t = rulings_give Numbered (row_refusal t) (row_count t) (λ row l. row_tabled (kind_at t row) (word_at t row) row)
-
-child_tabled : (t : List ℤ) → Tabled (child_refusal t)
-child_tabled t = rulings_give Numbered (λ row. refuse_unless (child_once t row) 5 row) (row_count t - 1) (λ row l. search tabled)
-
-table_tabled : (t : List ℤ) → Tabled (table_refusal t)
-unfolding table_refusal
-table_tabled t = search (tabled, rows_tabled, child_tabled)
-
-point_tabled : (box : Box) (p : Point) → Tabled (point_refusal box p)
-point_tabled box p = search tabled
-
-frame_tabled : (samples : List ℤ) (place : Place) → Tabled (frame_refusal samples place)
-frame_tabled samples place = search tabled
-
-leaves_tabled : (window : Box) (samples : List ℤ) (place : Place) → Tabled (leaves_refusal window samples place)
-leaves_tabled window samples place =
-    rulings_give Numbered (λ k. refuse_unless (holds window (point_of place k (code_at samples k))) 10 k) (length samples) (λ k l. search tabled)
-
-list_tabled : (list : List ℕ) → Tabled (list_refusal list)
-unfolding list_refusal
-list_tabled list =
-    let header : All Tabled (header_refusals list) = search tabled in
-    let numbers = below (product_count list) in
-    let products = all_flat_map (λ k. Unit {0}) Tabled (product_refusals list) (λ k u. search tabled) numbers (all_each (λ k. Unit {0}) (λ k. tt) numbers) in
-    first_tabled _ (search tabled, all_append Tabled (header_refusals list) (flat_map (product_refusals list) numbers) header products)
-
-accept_tabled : (t : List ℤ) (list : List ℕ) → Tabled (accept_refusal t list)
-unfolding accept_refusal
-accept_tabled t list = search (tabled, table_tabled, list_tabled)
-
-window_tabled : (w : Window) → Tabled (window_refusal w)
-window_tabled w = search tabled depth 8
-
-rectangle_tabled : (window : Box) (q : Rectangle) → Tabled (rectangle_refusal window q)
-rectangle_tabled window q = search tabled depth 8
-
-form_tabled : {text : List ℕ} (form : TextForm text) → Tabled (form_refusal form)
-form_tabled (too_long over) = search tabled
-form_tabled (faulty line short fault) = search tabled
-form_tabled (spelt rows short some_row not_over right is) = none_gives Numbered
-
-ruleset calls = (tabled, table_tabled, point_tabled, frame_tabled, leaves_tabled, accept_tabled, window_tabled, rectangle_tabled, form_tabled)
-
--- ---- what is told by such a rule, or else by a tale that is possible where nothing is refused
-
-told_possible : (rule : Option Refusal) (tale : Tale) → Tabled rule → Possible (fine tale) → {told : Told} → told ≡ tell rule tale → Possible told
-told_possible rule tale tabled possible = told_by Possible rule tale tabled (λ kept. possible)
+told_possible : (rule : Option Refusal) (tale : Tale) → Possible (fine tale) → {told : Told} → told ≡ tell rule tale → Possible told
+told_possible none tale possible e = subst Possible (sym e) possible
+told_possible (some q) tale possible e = subst Possible (sym e) (number_in_table q.rule)
 
 point_possible : (b : Bool) → Possible (fine (point_tale b))
 point_possible true = refl
@@ -161,41 +94,41 @@ search_possible is_inside samples place =
 -- ---- the calls
 
 pub check_possible : {t : List ℤ} {r : Checked} → TableChecked t r → Possible (told_checked r)
-check_possible {t} m = told_possible (table_refusal t) sound (table_tabled t) refl m.answer
+check_possible {t} m = told_possible (table_refusal t) sound refl m.answer
 
 pub tree_point_possible : {t : List ℤ} {p : Point} {r : Located} → TreeLocated t p r → Possible (told_located r)
-tree_point_possible {t} {p} m = told_possible (tree_point_refusal t p) _ (search calls depth 9) (point_possible (inside (tree_of t) p)) m.answer
+tree_point_possible {t} {p} m = told_possible (tree_point_refusal t p) _ (point_possible (inside (tree_of t) p)) m.answer
 
 pub tree_search_possible : {t samples : List ℤ} {place : Place} {r : Searched} → TreeSearched t samples place r → Possible (told_searched r)
 tree_search_possible {t} {samples} {place} m =
-    told_possible (tree_search_refusal t samples place) _ (search calls depth 9) (search_possible (inside (tree_of t)) samples place) m.answer
+    told_possible (tree_search_refusal t samples place) _ (search_possible (inside (tree_of t)) samples place) m.answer
 
 pub make_list_possible : {t : List ℤ} {w : Window} {before after : List ℕ} {r : Written} → ListMade t w before after r → Possible (told_written r)
-make_list_possible {t} {w} {before} m = told_possible (make_refusal t w (length before)) _ (search calls depth 9) refl m.answer
+make_list_possible {t} {w} {before} m = told_possible (make_refusal t w (length before)) _ refl m.answer
 
 pub list_point_possible : {t : List ℤ} {list : List ℕ} {p : Point} {r : Located} → ListLocated t list p r → Possible (told_located r)
-list_point_possible {t} {list} {p} m = told_possible (list_point_refusal t list p) _ (search calls depth 9) (point_possible (inside_list (primitives t) list p)) m.answer
+list_point_possible {t} {list} {p} m = told_possible (list_point_refusal t list p) _ (point_possible (inside_list (primitives t) list p)) m.answer
 
 pub list_search_possible : {t : List ℤ} {list : List ℕ} {samples : List ℤ} {place : Place} {r : Searched}
     → ListSearched t list samples place r → Possible (told_searched r)
 list_search_possible {t} {list} {samples} {place} m =
-    told_possible (list_search_refusal t list samples place) _ (search calls depth 9) (search_possible (inside_list (primitives t) list) samples place) m.answer
+    told_possible (list_search_refusal t list samples place) _ (search_possible (inside_list (primitives t) list) samples place) m.answer
 
 pub list_search_frames_possible : {t : List ℤ} {list : List ℕ} {codes : List ℤ} {frames : ℕ} {place : Place} {before after : List ℕ} {r : Written}
     → ScreenSearched t list codes frames place before after r → Possible (told_written r)
 list_search_frames_possible {t} {list} {codes} {frames} {place} {before} m =
-    told_possible (screen_refusal t list codes frames (length before)) _ (search calls depth 9) refl m.answer
+    told_possible (screen_refusal t list codes frames (length before)) _ refl m.answer
 
 pub list_waterfall_possible : {t : List ℤ} {list : List ℕ} {q : Rectangle} {before after : List ℤ} {r : Written}
     → PictureDrawn t list q before after r → Possible (told_written r)
-list_waterfall_possible {t} {list} {q} {before} m = told_possible (waterfall_refusal t list q (length before)) _ (search calls depth 9) refl m.answer
+list_waterfall_possible {t} {list} {q} {before} m = told_possible (waterfall_refusal t list q (length before)) _ refl m.answer
 
 pub rewrite_tree_possible : {t before after work cleared : List ℤ} {r : Written} → TreeRewritten t before after work cleared r → Possible (told_written r)
 rewrite_tree_possible {t} {before} {work = work} m =
-    told_possible (rewrite_refusal t (length before) (length work)) _ (search calls depth 9) refl m.answer
+    told_possible (rewrite_refusal t (length before) (length work)) _ refl m.answer
 
 pub read_text_possible : {text : List ℕ} {before after : List ℤ} {r : Written} → TextRead text before after r → Possible (told_written r)
-read_text_possible {before = before} m = told_possible (read_refusal m.form (length before)) _ (search calls depth 9) refl m.answer
+read_text_possible {before = before} m = told_possible (read_refusal m.form (length before)) _ refl m.answer
 
 pub write_text_possible : {t : List ℤ} {before after : List ℕ} {r : Written} → TextWritten t before after r → Possible (told_written r)
-write_text_possible {t} {before} m = told_possible (write_refusal t (length before)) _ (search calls depth 9) refl m.answer
+write_text_possible {t} {before} m = told_possible (write_refusal t (length before)) _ refl m.answer

@@ -1,4 +1,5 @@
 -- The three promises hold: each sentence cites the theorem that keeps it. Assumes nothing.
+use Rattle.std.specs.Prelude.{Ok}
 use Prim.Native.Nat.{ℕ, ◌*◌}
 use native.Mathlib.Omega.{arith}
 use mathlib.Core.List.{List}
@@ -9,8 +10,6 @@ use lib.ListN.{length}
 use Rattle.ground.proofs.Saying.{says_itself}
 use Rattle.rules.specs.declared.Refusal.{Refusal}
 use Rattle.rules.specs.declared.Window.{Window}
-use Rattle.rules.specs.declared.Written.{Written}
-use Rattle.rules.specs.declared.Written.TheVariants.{Wrote}
 use Rattle.rules.specs.Boxes.{Box}
 use Rattle.rules.specs.Frame.{first_inside, inside_count}
 use Rattle.rules.specs.Inside.{inside}
@@ -21,7 +20,7 @@ use Rattle.rules.specs.RewriteCall.{finished_rows, rewrite_refusal}
 use Rattle.rules.specs.Screen.{triple_words}
 use Rattle.rules.specs.Table.{primitives}
 use Rattle.rules.specs.TextCalls.{table_read, read_refusal, table_text, write_refusal}
-use Rattle.rules.specs.Told.{fine, wrote, tell, told_written}
+use Rattle.rules.specs.Told.{Written, fine, wrote, tell, told_written}
 use Rattle.rules.specs.Tree.{tree_of}
 use Rattle.rules.specs.TreeCalls.{tree_point_refusal, tree_search_refusal}
 use Rattle.rules.specs.Waterfall.{picture_words}
@@ -102,7 +101,7 @@ faithful {t} {w} {list} m = record {
     n : ℕ
     n = m.words
 
-    here : ListMade t w list list (Wrote n)
+    here : ListMade t w list list (Ok n)
     here = made_here m
 
     listable : Listable t w
@@ -152,5 +151,5 @@ promise_3 {t} {w} {before} {after} {r} made = record {
   no_room = λ l short. list_room t w before after r made l.sound l.window l.few short;
 }
   where
-    wrote_it : {n : ℕ} → told_written r ≡ fine (wrote n) → ListMade t w before after (Wrote n)
-    wrote_it {n} e = subst (ListMade t w before after) (written_once r (Wrote n) e) made
+    wrote_it : {n : ℕ} → told_written r ≡ fine (wrote n) → ListMade t w before after (Ok n)
+    wrote_it {n} e = subst (ListMade t w before after) (written_once r (Ok n) e) made

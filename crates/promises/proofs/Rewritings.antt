@@ -1,4 +1,5 @@
 -- What the rewriting promises holds: of one rewrite, of a run of the procedure, and of the areas that the call leaves. Assumes nothing.
+use Rattle.std.specs.Prelude.{Ok}
 use Prim.Native.Nat.{ℕ, ◌-◌, ◌/◌, ◌≤◌}
 use native.Mathlib.Nat.{le_refl, zero-add}
 use native.Mathlib.Omega.{arith}
@@ -12,10 +13,9 @@ use lib.IntN.{ℤ, pos}
 use lib.ListN.{length, get_or, take, drop, replicate, length-replicate}
 use Rattle.ground.proofs.Branches.{and_left}
 use Rattle.ground.proofs.Counting.{first_kept}
+use Rattle.rules.specs.declared.Rule.TheVariants as rule
 use Rattle.rules.specs.declared.Refusal.{Refusal}
 use Rattle.rules.specs.declared.Window.{Window}
-use Rattle.rules.specs.declared.Written.{Written}
-use Rattle.rules.specs.declared.Written.TheVariants.{Wrote}
 use Rattle.rules.specs.Choices.{choices, in_of, expansion}
 use Rattle.rules.specs.Form.{Form, leaf, ◌∪◌, form_of, holds_at, leaves}
 use Rattle.rules.specs.ListCalls.{zone_list, ListMade}
@@ -26,7 +26,7 @@ use Rattle.rules.specs.Products.{products}
 use Rattle.rules.specs.Refusals.{refuse_unless}
 use Rattle.rules.specs.RewriteCall.{most_rewritten, most_ways, rewrite_words, finished_tree, finished_rows, rewrite_refusal, TreeRewritten}
 use Rattle.rules.specs.Table.{primitives}
-use Rattle.rules.specs.Told.{fine, wrote, tell, told_written}
+use Rattle.rules.specs.Told.{Written, fine, wrote, tell, told_written}
 use Rattle.rules.specs.Tree.{tree_of}
 use Rattle.rules.specs.TreeRows.{rows_in, rows_from, form_to, form_in}
 use Rattle.rules.specs.Verdict.{table_refusal}
@@ -144,13 +144,13 @@ module _ {t before after work cleared : List ℤ} {r : Written} {n : ℕ}
       let room = leb rewrite_words (length before) in
       let work_room = leb rewrite_words (length work) in
       let table = first_kept (table_refusal t) _ told.0 in
-      let few = first_kept (refuse_unless (leb solids most_rewritten) 14 solids) _ table.1 in
-      let many = first_kept (refuse_unless (leb ways most_ways) 15 ways) _ few.1 in
-      let areas = first_kept (refuse_unless (room && work_room) 8 rewrite_words) [] many.1 in (
+      let few = first_kept (refuse_unless (leb solids most_rewritten) rule.Leaves solids) _ table.1 in
+      let many = first_kept (refuse_unless (leb ways most_ways) rule.Ways ways) _ few.1 in
+      let areas = first_kept (refuse_unless (room && work_room) rule.Room rewrite_words) [] many.1 in (
         table.0,
-        leb-true solids most_rewritten (unless_kept (leb solids most_rewritten) 14 solids few.0),
-        leb-true ways most_ways (unless_kept (leb ways most_ways) 15 ways many.0),
-        leb-true rewrite_words (length before) (and_left room work_room (unless_kept (room && work_room) 8 rewrite_words areas.0)),
+        leb-true solids most_rewritten (unless_kept (leb solids most_rewritten) rule.Leaves solids few.0),
+        leb-true ways most_ways (unless_kept (leb ways most_ways) rule.Ways ways many.0),
+        leb-true rewrite_words (length before) (and_left room work_room (unless_kept (room && work_room) rule.Room rewrite_words areas.0)),
       )
 
   finished : Rewritten t (finished_tree t)
@@ -179,5 +179,5 @@ module _ {t before after work cleared : List ℤ} {r : Written} {n : ℕ}
       → take m list ≡ list_of w (length (primitives t)) (pruned w (primitives t) (products_of (form_in after n)))
   unfolding zone_list
   list_from_rewriting {w} {room} {list} {s} {m} made told-it =
-      made_words (subst (ListMade t w room list) (written_once s (Wrote m) told-it) made)
+      made_words (subst (ListMade t w room list) (written_once s (Ok m) told-it) made)
       ∙ ap (list_of w (length (primitives t))) (rewrite_tells.pruned_list w)

@@ -13,12 +13,11 @@ use Rattle.ground.specs.Lists.{first_of, All}
 use Rattle.ground.proofs.Counting.{first_kept}
 use Rattle.ground.proofs.Lists.{all_map}
 use Rattle.rules.specs.declared.Refusal.{Refusal}
-use Rattle.rules.specs.declared.Written.{Written}
 use Rattle.rules.specs.Outcome.{leave}
 use Rattle.rules.specs.Text.{text_of, text_rows, table_of}
 use Rattle.rules.specs.TextCalls.{table_read, form_refusal, read_refusal, TextRead, table_text, write_refusal, TextWritten}
 use Rattle.rules.specs.TextForm.{most_bytes, Word32, RightRow, TextForm, too_long, faulty, spelt}
-use Rattle.rules.specs.Told.{fine, wrote, tell, told_written}
+use Rattle.rules.specs.Told.{Written, fine, wrote, tell, told_written}
 use Rattle.rules.specs.Verdict.{table_refusal}
 use Rattle.rules.proofs.Settled.{form_once}
 use Rattle.promises.proofs.Outcomes.{read_answer}

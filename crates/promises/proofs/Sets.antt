@@ -6,13 +6,12 @@ use mathlib.Core.Path.{◌≡◌, sym, ◌∙◌}
 use lib.IntN.{ℤ}
 use Rattle.ground.specs.Tests.{Says}
 use Rattle.ground.proofs.Saying.{says_or, says_and, says_not, says_itself}
-use Rattle.rules.specs.declared.Located.{Located}
 use Rattle.rules.specs.declared.Point.{Point}
 use Rattle.rules.specs.Boxes.{holds, everywhere}
 use Rattle.rules.specs.Verdict.{table_refusal}
 use Rattle.rules.specs.Tree.{Tree, solid, union, inter, diff, tree_of}
 use Rattle.rules.specs.Inside.{inside_solid, inside}
-use Rattle.rules.specs.Told.{fine, told_located}
+use Rattle.rules.specs.Told.{Located, fine, told_located}
 use Rattle.rules.specs.TreeCalls.{point_refusal, point_tale, TreeLocated}
 use Rattle.promises.specs.Promises.{BySet}
 use Rattle.promises.specs.Sets.{InSet}

@@ -5,15 +5,13 @@ use Rattle.std.specs.Prelude.{ℕ, ◌+◌, ◌*◌, ◌≤◌, ◌<◌, Bool, t
 use Rattle.std.proofs.Math.Option.{Option, none, some}
 use Rattle.std.specs.Int.Signed.{le_z}
 use Rattle.ground.specs.Lists.{All, Some, keep_if}
-use Rattle.rules.specs.declared.Located.{Located}
 use Rattle.rules.specs.declared.Place.{Place}
 use Rattle.rules.specs.declared.Point.{Point}
 use Rattle.rules.specs.declared.Product.{Product}
 use Rattle.rules.specs.declared.Rectangle.{Rectangle}
 use Rattle.rules.specs.declared.Refusal.{Refusal}
-use Rattle.rules.specs.declared.Searched.{Searched}
+use Rattle.rules.specs.declared.Rule.TheVariants as rule
 use Rattle.rules.specs.declared.Window.{Window}
-use Rattle.rules.specs.declared.Written.{Written}
 use Rattle.rules.specs.Boxes.{holds, everywhere, window_box}
 use Rattle.rules.specs.Choices.{choices, in_of, expansion}
 use Rattle.rules.specs.Form.{Form, holds_at, leaves, Rule}
@@ -31,7 +29,7 @@ use Rattle.rules.specs.Screen.{frame_at, later, triple_words, triple_of}
 use Rattle.rules.specs.Table.{primitives}
 use Rattle.rules.specs.TextCalls.{table_read, form_refusal, read_refusal, TextRead, table_text, write_refusal, TextWritten}
 use Rattle.rules.specs.TextForm.{Word32, TextForm}
-use Rattle.rules.specs.Told.{Told, inside, outside, clear, hit, wrote, fine, refused, told_checked, told_located, told_searched, told_written}
+use Rattle.rules.specs.Told.{Located, Searched, Written, Told, inside, outside, clear, hit, wrote, fine, refused, told_checked, told_located, told_searched, told_written, refused_by}
 use Rattle.rules.specs.Tree.{tree_of}
 use Rattle.rules.specs.TreeCalls.{point_refusal, TableChecked, tree_point_refusal, TreeLocated, tree_search_refusal, TreeSearched}
 use Rattle.rules.specs.TreeRows.{form_in}
@@ -67,7 +65,7 @@ pub record Writes {Lent : Type 0} (Meets : Lent → Written → Type 0) (before 
   -- and nothing else is refused
   pub no_other : {after : Lent} {r : Written} {q : Refusal} → Meets after r → told_written r ≡ refused q → rule ≡ some q
   -- a refusal leaves every buffer as it was
-  pub unchanged : {after : Lent} {r : Written} {q : Refusal} → Meets after r → told_written r ≡ refused q → after ≡ before
+  pub unchanged : {after : Lent} {r : Written} (q : Refusal) → Meets after r → told_written r ≡ refused q → after ≡ before
 
 -- the eleven public calls, at every input
 pub record Promise1 : Type 0 where
@@ -156,14 +154,14 @@ pub record Faithful (t : List ℤ) (w : Window) (list : List ℕ) : Type 0 where
   pub as_tree : (p : Point) → InWindow w p → {r s : Located} → ListLocated t list p r → TreeLocated t p s → r ≡ s
   -- every other point it refuses: 10, with the first axis on which the point is out of the window
   pub refuses : (p : Point) → OutOfWindow w p → {r : Located} → ListLocated t list p r
-      → (axis : ℕ) × (point_refusal (window_box w) p ≡ refuse 10 axis) × (told_located r ≡ refused (record { number = 10; value = axis }))
+      → (axis : ℕ) × (point_refusal (window_box w) p ≡ refuse rule.Outside axis) × (told_located r ≡ refused_by 10 axis)
   -- so with frames: where all samples are in the window, a search gives the tree's answer
   pub frame_as_tree : (samples : List ℤ) (place : Place) → ((k : ℕ) → k < length samples → SampleAt (InWindow w) samples place k)
       → {r s : Searched} → ListSearched t list samples place r → TreeSearched t samples place s → r ≡ s
   -- every other frame that is right in itself it refuses: 10, with the first sample that is out of the window
   pub refuses_frame : (samples : List ℤ) (place : Place) → frame_refusal samples place ≡ none
       → (k : ℕ) → k < length samples → SampleAt (OutOfWindow w) samples place k → ((j : ℕ) → j < k → SampleAt (InWindow w) samples place j)
-      → {r : Searched} → ListSearched t list samples place r → told_searched r ≡ refused (record { number = 10; value = k })
+      → {r : Searched} → ListSearched t list samples place r → told_searched r ≡ refused_by 10 k
   -- so with a picture: each word is the newest frame of the window at which the tree has its place
   pub picture : (q : Rectangle) {before after : List ℤ} {r : Written} {n : ℕ} → PictureDrawn t list q before after r
       → told_written r ≡ fine (wrote n) → AllNewest q (window_box w).z (InTree t) after
@@ -297,4 +295,4 @@ pub record Promise3 (t : List ℤ) (w : Window) (before after : List ℕ) (r : W
   -- Words after it stay.
   pub rest_stays : {n : ℕ} → told_written r ≡ fine (wrote n) → (i : ℕ) → n ≤ i → word after i ≡ word before i
   -- If it does not fit, the refusal names the room, and the buffer is as it was.
-  pub no_room : Listable t w → length before < needed t w → (told_written r ≡ refused (record { number = 8; value = needed t w })) × (after ≡ before)
+  pub no_room : Listable t w → length before < needed t w → (told_written r ≡ refused_by 8 (needed t w)) × (after ≡ before)

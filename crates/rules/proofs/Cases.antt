@@ -18,8 +18,7 @@ use Rattle.rules.specs.Inside.{inside}
 use Rattle.rules.specs.Frame.{first_inside, inside_count}
 use Rattle.rules.specs.Choices.{choices, ◌crossed_with◌, expansion}
 use Rattle.rules.specs.Products.{firsts, products}
-use Rattle.rules.specs.Refusals.{refuse}
-use Rattle.rules.specs.Told.{Told, fine, sound, inside as stands_inside, outside, clear, hit, tell}
+use Rattle.rules.specs.Told.{Told, fine, sound, inside as stands_inside, outside, clear, hit, tell, refused_by}
 use Rattle.rules.specs.TreeCalls.{tree_point_refusal, point_tale, search_tale, tree_search_refusal}
 use Rattle.rules.specs.Waterfall.{newest, place_word}
 use Rattle.rules.proofs.Zones.{q, q_apart, far_cuts, crossing, cut_of_cut, swapped, wedge, drum, triangle, turned_round, flat, two_boxes, deep_box, banded, layers_less, slope, columns_of, spot, at}
@@ -74,7 +73,7 @@ abbrev is_sound : Says
 is_sound = tells (fine sound)
 
 abbrev refused : ℕ → ℕ → Says
-refused number value = tells (tell (refuse number value) sound)
+refused number value = tells (refused_by number value)
 
 abbrev row : ℕ → Says → Says → Case
 row number says expected = record { number = number; says = says; expected = expected }

@@ -1,6 +1,7 @@
 -- Answers that look right and are not. Each theorem speaks of one good input, at which the rules do not refuse the call, and of every answer that
 -- could go with the impostor's error there: none of them meets the call's record. Beside each input stands the outcome that does (`right-..`).
 -- Assumes nothing.
+use Rattle.std.specs.Prelude.{Ok, Err, Some, None, false}
 use Prim.Native.Nat.{ℕ, ◌+◌, ◌^◌, ◌≤◌, ◌<◌}
 use native.Mathlib.Omega.{arith}
 use mathlib.Core.Bool.{true}
@@ -14,19 +15,13 @@ use lib.ListN.{length, get_or, replicate, length-replicate, get_or-replicate}
 use Rattle.ground.specs.Bits.{selected, places_where}
 use Rattle.ground.specs.Lists.{from, all_of, any_of, keep_if, count_if, find_if, first_of}
 use Rattle.rules.specs.declared.Axis.TheVariants.{Column}
-use Rattle.rules.specs.declared.Checked.TheVariants as checked
 use Rattle.rules.specs.declared.Kind.TheVariants.{Box}
-use Rattle.rules.specs.declared.Located.TheVariants as located
 use Rattle.rules.specs.declared.Place.{Place}
 use Rattle.rules.specs.declared.Primitive.{Primitive}
 use Rattle.rules.specs.declared.Product.{Product}
 use Rattle.rules.specs.declared.Rectangle.{Rectangle}
 use Rattle.rules.specs.declared.Refusal.{Refusal}
-use Rattle.rules.specs.declared.Searched.{Searched}
-use Rattle.rules.specs.declared.Searched.TheVariants as searched
 use Rattle.rules.specs.declared.Window.{Window}
-use Rattle.rules.specs.declared.Written.{Written}
-use Rattle.rules.specs.declared.Written.TheVariants as written
 use Rattle.rules.specs.Ranges.{columns, codes}
 use Rattle.rules.specs.Table.{primitives}
 use Rattle.rules.specs.Verdict.{table_refusal}
@@ -56,6 +51,7 @@ use Rattle.rules.proofs.Settled.{checked_settled, tree_located_settled, tree_sea
 use Rattle.rules.proofs.Settled.{list_located_settled, list_searched_settled, screen_searched_settled, picture_drawn_settled}
 use Rattle.rules.proofs.Settled.{text_read_settled, text_written_settled, tree_rewritten_settled, over_whole}
 use Rattle.rules.proofs.Rewriting.{q_rows, rows_of_q, still_fits_finished}
+use Rattle.rules.specs.Told.{Searched, Written}
 
 -- ---- the right outcomes at one input of each call: zone Q in columns -100..100, and the text of one box
 
@@ -79,27 +75,40 @@ three = nought ∷ nought ∷ nought ∷ []
 abbrev from19 : Place
 from19 = record { first = pos 19; frame = nought }
 
-pub right_check : TableChecked q checked.Sound
+abbrev hit_at : ℕ → ℕ → Searched
+hit_at first count = Ok (Some (record { first = first; count = count }))
+
+-- the count that an answer names
+counted : Searched → ℕ
+counted (Ok None) = 0
+counted (Ok (Some found)) = found.count
+counted (Err r) = 0
+
+hits_count : {f g c d : ℕ} → hit_at f c ≡ hit_at g d → c ≡ d
+unfolding counted
+hits_count e = ap counted e
+
+pub right_check : TableChecked q (Ok tt)
 unfolding table_refusal from all_of count_if find_if first_of flat_map
 right_check = record { answer = refl }
 
-pub right_tree_point : TreeLocated q (at 8 0) located.Inside
+pub right_tree_point : TreeLocated q (at 8 0) (Ok true)
 unfolding table_refusal trees inside from all_of count_if find_if first_of flat_map
 right_tree_point = record { answer = refl }
 
-pub right_tree_search : TreeSearched q three from19 (searched.Hit 1 2)
+pub right_tree_search : TreeSearched q three from19 (hit_at 1 2)
 unfolding table_refusal trees inside first_inside inside_count from all_of any_of count_if find_if first_of flat_map
 right_tree_search = record { answer = refl }
 
-pub right_make : ListMade q window room q_list (written.Wrote 12)
+pub right_make : ListMade q window room q_list (Ok 12)
 unfolding table_refusal trees choices ◌crossed_with◌ firsts products zone_list from all_of keep_if count_if find_if first_of selected places_where flat_map
 right_make = record { answer = refl; buffer = refl }
 
-pub right_list_point : ListLocated q q_list (at 8 0) located.Inside
+pub right_list_point : ListLocated q q_list (at 8 0) (Ok true)
 unfolding table_refusal list_refusal accept_refusal inside_product inside_list from all_of any_of count_if find_if first_of selected flat_map
 right_list_point = record { answer = refl }
 
-pub right_list_search : ListSearched q q_list three from19 (searched.Hit 1 2)
+pub right_list_search : ListSearched q q_list three from19 (hit_at 1 2)
 unfolding table_refusal list_refusal accept_refusal inside_product inside_list first_inside inside_count from all_of any_of count_if find_if first_of selected flat_map
 right_list_search = record { answer = refl }
 
@@ -110,7 +119,7 @@ triple_room = replicate 7 7
 abbrev From : ℤ → List ℕ → Written → Type 0
 From number = ScreenSearched q q_list (three ++ three) 2 (record { first = pos 19; frame = number }) triple_room
 
-pub right_screen : From (negsuc 0) (0 ∷ 0 ∷ 0 ∷ 1 ∷ 1 ∷ 2 ∷ 7 ∷ []) (written.Wrote 6)
+pub right_screen : From (negsuc 0) (0 ∷ 0 ∷ 0 ∷ 1 ∷ 1 ∷ 2 ∷ 7 ∷ []) (Ok 6)
 unfolding table_refusal list_refusal accept_refusal inside_product inside_list first_inside inside_count screen_triples from all_of any_of count_if find_if first_of selected flat_map
 right_screen = record { answer = refl; buffer = refl }
 
@@ -130,7 +139,7 @@ picture_room = replicate 5 (pos 7)
 abbrev Drawn : List ℤ → Written → Type 0
 Drawn = PictureDrawn layers layers_list square picture_room
 
-pub right_picture : Drawn (no_frame ∷ no_frame ∷ negsuc 1 ∷ no_frame ∷ pos 7 ∷ []) (written.Wrote 4)
+pub right_picture : Drawn (no_frame ∷ no_frame ∷ negsuc 1 ∷ no_frame ∷ pos 7 ∷ []) (Ok 4)
 unfolding table_refusal list_refusal accept_refusal inside_product inside_list newest waterfall from all_of any_of count_if find_if first_of selected flat_map
 right_picture = record { answer = refl; buffer = refl }
 
@@ -150,11 +159,11 @@ text_room = replicate 23 7
 abbrev table_room : List ℤ
 table_room = replicate 12 (pos 7)
 
-pub right_write : TextWritten one_box text_room box_text (written.Wrote 23)
+pub right_write : TextWritten one_box text_room box_text (Ok 23)
 unfolding table_refusal table_text decimal_in from all_of count_if find_if first_of flat_map
 right_write = record { answer = refl; buffer = refl }
 
-pub right_read : TextRead box_text table_room one_box (written.Wrote 12)
+pub right_read : TextRead box_text table_room one_box (Ok 12)
 unfolding table_refusal decimal_in from all_of count_if find_if first_of flat_map
 right_read = record {
   form = spelt (box_row ∷ []) (lit≤ tt) (lit≤ tt) (lit≤ tt) (record { named = refl; fit = omega arith }, tt) refl;
@@ -167,48 +176,48 @@ never e = omega arith
 
 -- ---- one that refuses everything: where the rules refuse nothing no refusal does, whatever is left in the buffer
 
-pub refuses_tables : (why : Refusal) → TableChecked q (checked.Refused why) → ⊥
+pub refuses_tables : (why : Refusal) → TableChecked q (Err why) → ⊥
 refuses_tables why h = let e = checked_settled h right_check in never (cc)
 
-pub refuses_tree_points : (why : Refusal) → TreeLocated q (at 8 0) (located.Refused why) → ⊥
+pub refuses_tree_points : (why : Refusal) → TreeLocated q (at 8 0) (Err why) → ⊥
 refuses_tree_points why h = let e = tree_located_settled h right_tree_point in never (cc)
 
-pub refuses_tree_searches : (why : Refusal) → TreeSearched q three from19 (searched.Refused why) → ⊥
+pub refuses_tree_searches : (why : Refusal) → TreeSearched q three from19 (Err why) → ⊥
 refuses_tree_searches why h = let e = tree_searched_settled h right_tree_search in never (cc)
 
-pub refuses_lists : (why : Refusal) {after : List ℕ} → ListMade q window room after (written.Refused why) → ⊥
+pub refuses_lists : (why : Refusal) {after : List ℕ} → ListMade q window room after (Err why) → ⊥
 refuses_lists why h = let e = (list_made_settled h right_make).0 in never (cc)
 
-pub refuses_list_points : (why : Refusal) → ListLocated q q_list (at 8 0) (located.Refused why) → ⊥
+pub refuses_list_points : (why : Refusal) → ListLocated q q_list (at 8 0) (Err why) → ⊥
 refuses_list_points why h = let e = list_located_settled h right_list_point in never (cc)
 
-pub refuses_list_searches : (why : Refusal) → ListSearched q q_list three from19 (searched.Refused why) → ⊥
+pub refuses_list_searches : (why : Refusal) → ListSearched q q_list three from19 (Err why) → ⊥
 refuses_list_searches why h = let e = list_searched_settled h right_list_search in never (cc)
 
-pub refuses_screens : (why : Refusal) {after : List ℕ} → From (negsuc 0) after (written.Refused why) → ⊥
+pub refuses_screens : (why : Refusal) {after : List ℕ} → From (negsuc 0) after (Err why) → ⊥
 refuses_screens why h = let e = (screen_searched_settled h right_screen).0 in never (cc)
 
-pub refuses_pictures : (why : Refusal) {after : List ℤ} → Drawn after (written.Refused why) → ⊥
+pub refuses_pictures : (why : Refusal) {after : List ℤ} → Drawn after (Err why) → ⊥
 refuses_pictures why h = let e = (picture_drawn_settled h right_picture).0 in never (cc)
 
-pub refuses_texts : (why : Refusal) {after : List ℤ} → TextRead box_text table_room after (written.Refused why) → ⊥
+pub refuses_texts : (why : Refusal) {after : List ℤ} → TextRead box_text table_room after (Err why) → ⊥
 refuses_texts why h = let e = (text_read_settled h right_read).0 in never (cc)
 
-pub refuses_to_write_text : (why : Refusal) {after : List ℕ} → TextWritten one_box text_room after (written.Refused why) → ⊥
+pub refuses_to_write_text : (why : Refusal) {after : List ℕ} → TextWritten one_box text_room after (Err why) → ⊥
 refuses_to_write_text why h = let e = (text_written_settled h right_write).0 in never (cc)
 
 -- ---- one that always says clear, or outside
 
-pub tree_always_clear : TreeSearched q three from19 searched.Clear → ⊥
+pub tree_always_clear : TreeSearched q three from19 (Ok None) → ⊥
 tree_always_clear h = let e = tree_searched_settled h right_tree_search in never (cc)
 
-pub list_always_clear : ListSearched q q_list three from19 searched.Clear → ⊥
+pub list_always_clear : ListSearched q q_list three from19 (Ok None) → ⊥
 list_always_clear h = let e = list_searched_settled h right_list_search in never (cc)
 
-pub tree_always_outside : TreeLocated q (at 8 0) located.Outside → ⊥
+pub tree_always_outside : TreeLocated q (at 8 0) (Ok false) → ⊥
 tree_always_outside h = let e = tree_located_settled h right_tree_point in never (cc)
 
-pub list_always_outside : ListLocated q q_list (at 8 0) located.Outside → ⊥
+pub list_always_outside : ListLocated q q_list (at 8 0) (Ok false) → ⊥
 list_always_outside h = let e = list_located_settled h right_list_point in never (cc)
 
 -- ---- one that tests only the first sample: two frames of three samples agree in it, and no answer does for both
@@ -217,11 +226,11 @@ list_always_outside h = let e = list_located_settled h right_list_point in never
 abbrev leaving : List ℤ
 leaving = nought ∷ pos 50 ∷ pos 50 ∷ []
 
-pub right_tree_leaving : TreeSearched q leaving from19 searched.Clear
+pub right_tree_leaving : TreeSearched q leaving from19 (Ok None)
 unfolding table_refusal trees inside first_inside inside_count from all_of any_of count_if find_if first_of flat_map
 right_tree_leaving = record { answer = refl }
 
-pub right_list_leaving : ListSearched q q_list leaving from19 searched.Clear
+pub right_list_leaving : ListSearched q q_list leaving from19 (Ok None)
 unfolding table_refusal list_refusal accept_refusal inside_product inside_list first_inside inside_count from all_of any_of count_if find_if first_of selected flat_map
 right_list_leaving = record { answer = refl }
 
@@ -243,32 +252,32 @@ list_first_sample_only r h g =
 abbrev crossed : List ℤ
 crossed = negsuc 2 ∷ pos 3 ∷ negsuc 2 ∷ []
 
-pub right_tree_crossed : TreeSearched q crossed from19 (searched.Hit 1 2)
+pub right_tree_crossed : TreeSearched q crossed from19 (hit_at 1 2)
 unfolding table_refusal trees inside first_inside inside_count from all_of any_of count_if find_if first_of flat_map
 right_tree_crossed = record { answer = refl }
 
-pub right_list_crossed : ListSearched q q_list crossed from19 (searched.Hit 1 2)
+pub right_list_crossed : ListSearched q q_list crossed from19 (hit_at 1 2)
 unfolding table_refusal list_refusal accept_refusal inside_product inside_list first_inside inside_count from all_of any_of count_if find_if first_of selected flat_map
 right_list_crossed = record { answer = refl }
 
-pub tree_samples_only : TreeSearched q crossed from19 searched.Clear → ⊥
+pub tree_samples_only : TreeSearched q crossed from19 (Ok None) → ⊥
 tree_samples_only h = let e = tree_searched_settled h right_tree_crossed in never (cc)
 
-pub list_samples_only : ListSearched q q_list crossed from19 searched.Clear → ⊥
+pub list_samples_only : ListSearched q q_list crossed from19 (Ok None) → ⊥
 list_samples_only h = let e = list_searched_settled h right_list_crossed in never (cc)
 
 -- edges of one direction alone are filled: one of the two columns is missed
-pub tree_one_direction : (first : ℕ) → TreeSearched q crossed from19 (searched.Hit first 1) → ⊥
-tree_one_direction first h = let e = tree_searched_settled h right_tree_crossed in let n : ◌≡◌ {A = ℕ} 1 2 = cc in omega arith
+pub tree_one_direction : (first : ℕ) → TreeSearched q crossed from19 (hit_at first 1) → ⊥
+tree_one_direction first h = let e = tree_searched_settled h right_tree_crossed in let n : ◌≡◌ {A = ℕ} 1 2 = hits_count {f = first} {g = 1} e in omega arith
 
-pub list_one_direction : (first : ℕ) → ListSearched q q_list crossed from19 (searched.Hit first 1) → ⊥
-list_one_direction first h = let e = list_searched_settled h right_list_crossed in let n : ◌≡◌ {A = ℕ} 1 2 = cc in omega arith
+pub list_one_direction : (first : ℕ) → ListSearched q q_list crossed from19 (hit_at first 1) → ⊥
+list_one_direction first h = let e = list_searched_settled h right_list_crossed in let n : ◌≡◌ {A = ℕ} 1 2 = hits_count {f = first} {g = 1} e in omega arith
 
 -- the code of the sample before is counted: in `leaving` it is the only one inside
-pub tree_earlier_code_counted : (first count : ℕ) → TreeSearched q leaving from19 (searched.Hit first count) → ⊥
+pub tree_earlier_code_counted : (first count : ℕ) → TreeSearched q leaving from19 (hit_at first count) → ⊥
 tree_earlier_code_counted first count h = let e = tree_searched_settled h right_tree_leaving in never (cc)
 
-pub list_earlier_code_counted : (first count : ℕ) → ListSearched q q_list leaving from19 (searched.Hit first count) → ⊥
+pub list_earlier_code_counted : (first count : ℕ) → ListSearched q q_list leaving from19 (hit_at first count) → ⊥
 list_earlier_code_counted first count h = let e = list_searched_settled h right_list_leaving in never (cc)
 
 -- sample 0 is filled, as from the foot of the screen: one sample stands in column 20, over Q, and none before it
@@ -278,27 +287,27 @@ from20 = record { first = pos 20; frame = nought }
 abbrev alone : List ℤ
 alone = pos 5 ∷ []
 
-pub right_tree_alone : TreeSearched q alone from20 searched.Clear
+pub right_tree_alone : TreeSearched q alone from20 (Ok None)
 unfolding table_refusal trees inside first_inside inside_count from all_of any_of count_if find_if first_of flat_map
 right_tree_alone = record { answer = refl }
 
-pub right_list_alone : ListSearched q q_list alone from20 searched.Clear
+pub right_list_alone : ListSearched q q_list alone from20 (Ok None)
 unfolding table_refusal list_refusal accept_refusal inside_product inside_list first_inside inside_count from all_of any_of count_if find_if first_of selected flat_map
 right_list_alone = record { answer = refl }
 
-pub tree_sample_0_filled : (first count : ℕ) → TreeSearched q alone from20 (searched.Hit first count) → ⊥
+pub tree_sample_0_filled : (first count : ℕ) → TreeSearched q alone from20 (hit_at first count) → ⊥
 tree_sample_0_filled first count h = let e = tree_searched_settled h right_tree_alone in never (cc)
 
-pub list_sample_0_filled : (first count : ℕ) → ListSearched q q_list alone from20 (searched.Hit first count) → ⊥
+pub list_sample_0_filled : (first count : ℕ) → ListSearched q q_list alone from20 (hit_at first count) → ⊥
 list_sample_0_filled first count h = let e = list_searched_settled h right_list_alone in never (cc)
 
 -- ---- one that invents the number of inside samples: where there are two, no other number does
 
-pub tree_invented_count : (first count : ℕ) → (count ≡ 2 → ⊥) → TreeSearched q three from19 (searched.Hit first count) → ⊥
-tree_invented_count first count other h = let e = tree_searched_settled h right_tree_search in other (cc)
+pub tree_invented_count : (first count : ℕ) → (count ≡ 2 → ⊥) → TreeSearched q three from19 (hit_at first count) → ⊥
+tree_invented_count first count other h = let e = tree_searched_settled h right_tree_search in other (hits_count {f = first} {g = 1} e)
 
-pub list_invented_count : (first count : ℕ) → (count ≡ 2 → ⊥) → ListSearched q q_list three from19 (searched.Hit first count) → ⊥
-list_invented_count first count other h = let e = list_searched_settled h right_list_search in other (cc)
+pub list_invented_count : (first count : ℕ) → (count ≡ 2 → ⊥) → ListSearched q q_list three from19 (hit_at first count) → ⊥
+list_invented_count first count other h = let e = list_searched_settled h right_list_search in other (hits_count {f = first} {g = 1} e)
 
 -- ---- one that leaves the buffer untouched, whatever it answers
 
@@ -340,7 +349,7 @@ module _ {after : List ℕ} {r : Written} (h : From (negsuc 0) after r) where
 abbrev TwoSingles : List ℕ → Written → Type 0
 TwoSingles = ScreenSearched q q_list (pos 5 ∷ negsuc 4 ∷ []) 2 (record { first = pos 20; frame = negsuc 0 }) triple_room
 
-pub right_singles : TwoSingles (0 ∷ 0 ∷ 0 ∷ 0 ∷ 0 ∷ 0 ∷ 7 ∷ []) (written.Wrote 6)
+pub right_singles : TwoSingles (0 ∷ 0 ∷ 0 ∷ 0 ∷ 0 ∷ 0 ∷ 7 ∷ []) (Ok 6)
 unfolding table_refusal list_refusal accept_refusal inside_product inside_list first_inside inside_count screen_triples from all_of any_of count_if find_if first_of selected flat_map
 right_singles = record { answer = refl; buffer = refl }
 
@@ -349,14 +358,14 @@ filled_from_the_frame_before h is = let e : ◌≡◌ {A = ℕ} 0 1 = ap (λ (ws
 
 -- ---- one that forgets the hundred of a refused frame, and one that stops there: frame 1048576 does not exist, and neither does frame -1048577
 
-pub right_last_frame : From (pos 1048575) (0 ∷ 0 ∷ 0 ∷ 112 ∷ 2 ∷ 0 ∷ 7 ∷ []) (written.Wrote 6)
+pub right_last_frame : From (pos 1048575) (0 ∷ 0 ∷ 0 ∷ 112 ∷ 2 ∷ 0 ∷ 7 ∷ []) (Ok 6)
 unfolding table_refusal list_refusal accept_refusal inside_product inside_list first_inside inside_count screen_triples from all_of any_of count_if find_if first_of selected flat_map
 right_last_frame = record { answer = refl; buffer = refl }
 
 pub hundred_forgotten : {after : List ℕ} {r : Written} → From (pos 1048575) after r → word after 3 ≡ 12 → ⊥
 hundred_forgotten h is = let e : ◌≡◌ {A = ℕ} 112 12 = same_word (pos 1048575) right_last_frame h 3 ∙ is in omega arith
 
-pub right_first_frame : From (negsuc 1048576) (112 ∷ 2 ∷ 0 ∷ 0 ∷ 0 ∷ 0 ∷ 7 ∷ []) (written.Wrote 6)
+pub right_first_frame : From (negsuc 1048576) (112 ∷ 2 ∷ 0 ∷ 0 ∷ 0 ∷ 0 ∷ 7 ∷ []) (Ok 6)
 unfolding table_refusal list_refusal accept_refusal inside_product inside_list first_inside inside_count screen_triples from all_of any_of count_if find_if first_of selected flat_map
 right_first_frame = record { answer = refl; buffer = refl }
 
@@ -364,7 +373,7 @@ right_first_frame = record { answer = refl; buffer = refl }
 pub stops_at_a_refused_frame : (r : Written) → From (negsuc 1048576) (over (112 ∷ 2 ∷ 0 ∷ []) triple_room) r → ⊥
 stops_at_a_refused_frame r h = let e : ◌≡◌ {A = ℕ} 0 7 = same_word (negsuc 1048576) right_first_frame h 3 in omega arith
 
-pub refused_with_its_frame : (why : Refusal) {after : List ℕ} → From (negsuc 1048576) after (written.Refused why) → ⊥
+pub refused_with_its_frame : (why : Refusal) {after : List ℕ} → From (negsuc 1048576) after (Err why) → ⊥
 refused_with_its_frame why h = let e = (screen_searched_settled h right_first_frame).0 in never (cc)
 
 -- ---- one that invents the product count, and one whose list is always empty: where there are two products, no other number does
@@ -380,7 +389,7 @@ always_empty = invented_product_count 0 (λ e. omega arith)
 abbrev early : Window
 early = record { xlo = columns.lo; xhi = columns.hi; ylo = codes.lo; yhi = codes.hi; zlo = negsuc 4; zhi = negsuc 0 }
 
-pub right_early : ListMade q early room (0 ∷ 0 ∷ 65535 ∷ 0 ∷ 65535 ∷ 1048571 ∷ 1048575 ∷ 4 ∷ 7 ∷ 7 ∷ 7 ∷ 7 ∷ []) (written.Wrote 8)
+pub right_early : ListMade q early room (0 ∷ 0 ∷ 65535 ∷ 0 ∷ 65535 ∷ 1048571 ∷ 1048575 ∷ 4 ∷ 7 ∷ 7 ∷ 7 ∷ 7 ∷ []) (Ok 8)
 unfolding table_refusal trees choices ◌crossed_with◌ firsts products zone_list from all_of keep_if count_if find_if first_of selected places_where flat_map
 right_early = record { answer = refl; buffer = refl }
 
@@ -393,7 +402,7 @@ frames_as_columns h is =
 abbrev cut_far : List ℤ
 cut_far = box nought (pos 9) ++ (box nought (pos 9) ++ (union 0 1 ++ (box (pos 40) (pos 49) ++ diff 2 3)))
 
-pub right_cut_far : ListMade cut_far window room (list_header 2 3 ++ (1 ∷ 0 ∷ 2 ∷ 0 ∷ [])) (written.Wrote 12)
+pub right_cut_far : ListMade cut_far window room (list_header 2 3 ++ (1 ∷ 0 ∷ 2 ∷ 0 ∷ [])) (Ok 12)
 unfolding table_refusal trees choices ◌crossed_with◌ firsts products zone_list from all_of keep_if count_if find_if first_of selected places_where flat_map
 right_cut_far = record { answer = refl; buffer = refl }
 
@@ -418,7 +427,7 @@ others_raw r h = let e : ◌≡◌ {A = ℕ} 4 0 = ap (λ (list : List ℕ). get
 abbrev barred : List ℤ
 barred = box (pos 5) (pos 9) ++ (box nought (pos 9) ++ (box nought (pos 3) ++ (diff 1 2 ++ inter 0 3)))
 
-pub right_barred : ListMade barred window room (list_header 1 3 ++ (3 ∷ 0 ∷ 7 ∷ 7 ∷ [])) (written.Wrote 10)
+pub right_barred : ListMade barred window room (list_header 1 3 ++ (3 ∷ 0 ∷ 7 ∷ 7 ∷ [])) (Ok 10)
 unfolding table_refusal trees choices ◌crossed_with◌ firsts products zone_list from all_of keep_if count_if find_if first_of selected places_where flat_map
 right_barred = record { answer = refl; buffer = refl }
 
@@ -447,23 +456,23 @@ cut_against_left r h = let e : ◌≡◌ {A = ℕ} 4 0 = ap (λ (list : List ℕ
 
 -- ---- one that leaves a triangle's edges out, and one that wants its corners one way round
 
-pub right_on_an_edge : TreeLocated triangle (at 5 5) located.Inside
+pub right_on_an_edge : TreeLocated triangle (at 5 5) (Ok true)
 unfolding table_refusal trees inside from all_of count_if find_if first_of flat_map
 right_on_an_edge = record { answer = refl }
 
-pub edges_left_out : TreeLocated triangle (at 5 5) located.Outside → ⊥
+pub edges_left_out : TreeLocated triangle (at 5 5) (Ok false) → ⊥
 edges_left_out h = let e = tree_located_settled h right_on_an_edge in never (cc)
 
-pub right_turned_round : TreeLocated turned_round (at 1 1) located.Inside
+pub right_turned_round : TreeLocated turned_round (at 1 1) (Ok true)
 unfolding table_refusal trees inside from all_of count_if find_if first_of flat_map
 right_turned_round = record { answer = refl }
 
-pub one_way_round_only : TreeLocated turned_round (at 1 1) located.Outside → ⊥
+pub one_way_round_only : TreeLocated turned_round (at 1 1) (Ok false) → ⊥
 one_way_round_only h = let e = tree_located_settled h right_turned_round in never (cc)
 
 -- ---- one that tests a cut against the triangle, which it misses, and not against its box
 
-pub right_corner_cut : ListMade corner_cut window room (list_header 1 2 ++ (1 ∷ 2 ∷ 7 ∷ 7 ∷ [])) (written.Wrote 10)
+pub right_corner_cut : ListMade corner_cut window room (list_header 1 2 ++ (1 ∷ 2 ∷ 7 ∷ 7 ∷ [])) (Ok 10)
 unfolding table_refusal trees choices ◌crossed_with◌ firsts products zone_list from all_of keep_if count_if find_if first_of selected places_where flat_map
 right_corner_cut = record { answer = refl; buffer = refl }
 
@@ -509,7 +518,7 @@ module _ (before work : List ℤ) (fits : rewrite_words ≤ length before) (work
 
   -- at a sound table of few primitives and ways, by the rows that its tree comes to
   right_at : (t rows : List ℤ) → table_refusal t ≡ none → leb (length (primitives t)) most_rewritten ≡ true → leb (expansion (tree_of t)) most_ways ≡ true
-      → finished_rows t ≡ rows → TreeRewritten t before (over rows before) work zeros (written.Wrote (length rows))
+      → finished_rows t ≡ rows → TreeRewritten t before (over rows before) work zeros (Ok (length rows))
   unfolding first_of
   right_at t rows sound few many is = record {
     answer = rw (nothing, is) refl;
@@ -520,15 +529,15 @@ module _ (before work : List ℤ) (fits : rewrite_words ≤ length before) (work
       nothing : rewrite_refusal t (length before) (length work) ≡ none
       nothing = rw (sound, few, many, le-leb rewrite_words (length before) fits, le-leb rewrite_words (length work) work-fits) refl
 
-  pub right_rewrite : TreeRewritten q before (over q_rows before) work zeros (written.Wrote 27)
+  pub right_rewrite : TreeRewritten q before (over q_rows before) work zeros (Ok 27)
   unfolding table_refusal trees choices ◌crossed_with◌ from all_of count_if find_if first_of flat_map
   right_rewrite = right_at q q_rows refl refl refl rows_of_q
 
-  pub right_still_fits : TreeRewritten still_fits before (over (rows_from 0 (((leaf 0 ∩ leaf 1) ∖ leaf 2) ∩ leaf 3)) before) work zeros (written.Wrote 21)
+  pub right_still_fits : TreeRewritten still_fits before (over (rows_from 0 (((leaf 0 ∩ leaf 1) ∖ leaf 2) ∩ leaf 3)) before) work zeros (Ok 21)
   unfolding table_refusal trees choices ◌crossed_with◌ rows_from rows_in from all_of count_if find_if first_of flat_map
   right_still_fits = right_at still_fits _ refl refl refl still_fits_finished
 
-  pub right_part_far : TreeRewritten part_far before (over (rows_from 0 ((leaf 0 ∩ leaf 2) ∪ (leaf 1 ∩ leaf 2))) before) work zeros (written.Wrote 21)
+  pub right_part_far : TreeRewritten part_far before (over (rows_from 0 ((leaf 0 ∩ leaf 2) ∪ (leaf 1 ∩ leaf 2))) before) work zeros (Ok 21)
   unfolding table_refusal trees choices ◌crossed_with◌ rows_from rows_in from all_of count_if find_if first_of flat_map
   right_part_far = right_at part_far _ refl refl refl rows_of_part_far
 
@@ -538,7 +547,7 @@ module _ (before work : List ℤ) (fits : rewrite_words ≤ length before) (work
   tree_word h k i = ap (λ (words : List ℤ). get_or words i nought) (tree_rewritten_settled h k).1
 
   -- one that refuses
-  pub refuses_rewriting : (why : Refusal) {after cleared : List ℤ} → TreeRewritten q before after work cleared (written.Refused why) → ⊥
+  pub refuses_rewriting : (why : Refusal) {after cleared : List ℤ} → TreeRewritten q before after work cleared (Err why) → ⊥
   refuses_rewriting why h = let e = (tree_rewritten_settled h right_rewrite).0 in never (cc)
 
   -- one that leaves the tree's area as it was, where word 4 is not by chance the right one
@@ -564,7 +573,7 @@ module _ (before work : List ℤ) (fits : rewrite_words ≤ length before) (work
 
   -- one that prunes, whatever stands behind what it wrote: B ∩ C is in the finished tree, though no point is in both
   pub pruned_rewriting : {after cleared : List ℤ}
-      → TreeRewritten part_far before after work cleared (written.Wrote (length (rows_from 0 (leaf 0 ∩ leaf 2)))) → ⊥
+      → TreeRewritten part_far before after work cleared (Ok (length (rows_from 0 (leaf 0 ∩ leaf 2)))) → ⊥
   unfolding rows_from rows_in
   pruned_rewriting h =
       let e = (tree_rewritten_settled h right_part_far).0 in

@@ -1,3 +1,4 @@
+pub mod KindNumbers
 pub mod Zones
 pub mod Rewriting
 pub mod Cases

@@ -1,5 +1,6 @@
 -- Every record settles its call: any two outcomes that meet it are the same, and one that is a refusal leaves every lent buffer as it was.
 -- Assumes nothing.
+use Rattle.std.specs.Prelude.{Err}
 use Prim.Native.Nat.{ℕ, ◌+◌, ◌-◌, ◌*◌, ◌≤◌, ◌<◌}
 use native.Mathlib.Omega.{arith}
 use native.Mathlib.Decide.{dec_lt}
@@ -10,23 +11,19 @@ use lib.IntN.{ℤ, pos}
 use lib.ListN.{length, get_or, drop, replicate, drop_of_length-le}
 use lib.Seq.{get_or-append-add, get_or-drop}
 use Rattle.ground.specs.Lists.{All, first_of}
-use Rattle.rules.specs.declared.Checked.{Checked}
-use Rattle.rules.specs.declared.Located.{Located}
 use Rattle.rules.specs.declared.Place.{Place}
 use Rattle.rules.specs.declared.Point.{Point}
 use Rattle.rules.specs.declared.Rectangle.{Rectangle}
 use Rattle.rules.specs.declared.Refusal.{Refusal}
-use Rattle.rules.specs.declared.Searched.{Searched}
+use Rattle.rules.specs.declared.Rule.TheVariants as rule
 use Rattle.rules.specs.declared.Window.{Window}
-use Rattle.rules.specs.declared.Written.{Written}
-use Rattle.rules.specs.declared.Written.TheVariants.{Refused}
 use Rattle.rules.specs.Table.{most_rows, primitives}
 use Rattle.rules.specs.Verdict.{table_refusal}
 use Rattle.rules.specs.Refusals.{room_refusal}
 use Rattle.rules.specs.Text.{TextRow, text_of, table_of}
 use Rattle.rules.specs.TextForm.{lines_of, RightRow, FirstFault, no_header, no_such_row, no_end}
 use Rattle.rules.specs.TextForm.{TextForm, too_long, faulty, spelt}
-use Rattle.rules.specs.Told.{refused, wrote, tell}
+use Rattle.rules.specs.Told.{Checked, Located, Searched, Written, refused, wrote, tell}
 use Rattle.rules.specs.Outcome.{over, leave}
 use Rattle.rules.specs.Products.{products}
 use Rattle.rules.specs.Tree.{tree_of}
@@ -111,7 +108,7 @@ form_once (too_long l) (too_long m) = (refl, refl)
 form_once (too_long l) (faulty n short fault) = absurd (omega arith)
 form_once (too_long l) (spelt rows short some_row not_over right is) = absurd (omega arith)
 form_once (faulty m short fault) (too_long l) = absurd (omega arith)
-form_once (faulty m short fault) (faulty n short' fault') = (ap (λ (line : ℕ). some (record { number = 13; value = line })) (fault_once fault fault'), refl)
+form_once (faulty m short fault) (faulty n short' fault') = (ap (λ (line : ℕ). some (record { rule = rule.Text; value = line })) (fault_once fault fault'), refl)
 form_once (faulty m short fault) (spelt rows short' some_row not_over right is) = absurd (spelt_not_faulty rows some_row not_over right is fault)
 form_once (spelt rows short some_row not_over right is) (too_long l) = absurd (omega arith)
 form_once (spelt rows short some_row not_over right is) (faulty n short' fault) = absurd (spelt_not_faulty rows some_row not_over right is fault)
@@ -137,34 +134,34 @@ zone_listed_settled {before = before} p q =
 
 -- ---- a refusal leaves the buffer as it was
 
-keeps : {A : Type 0} (x : Option Refusal) (n : ℕ) (result before : List A) {r : Refusal} → refused r ≡ tell x (wrote n) → leave x result before ≡ before
-keeps x n result before e = ap (λ (y : Option Refusal). leave y result before) (refused_some x n e)
+keeps : {A : Type 0} (x : Option Refusal) (n : ℕ) (result before : List A) (r : Refusal) → refused r ≡ tell x (wrote n) → leave x result before ≡ before
+keeps x n result before r e = ap (λ (y : Option Refusal). leave y result before) (refused_some x n r e)
 
-pub list_made_keeps : {t : List ℤ} {w : Window} {before after : List ℕ} {r : Refusal} → ListMade t w before after (Refused r) → after ≡ before
-list_made_keeps {t} {w} {before} p = p.buffer ∙ keeps (make_refusal t w (length before)) (length (zone_list t w)) (zone_list t w) before p.answer
+pub list_made_keeps : {t : List ℤ} {w : Window} {before after : List ℕ} {r : Refusal} → ListMade t w before after (Err r) → after ≡ before
+list_made_keeps {t} {w} {before} p = p.buffer ∙ keeps (make_refusal t w (length before)) (length (zone_list t w)) (zone_list t w) before _ p.answer
 
-pub text_read_keeps : {text : List ℕ} {before after : List ℤ} {r : Refusal} → TextRead text before after (Refused r) → after ≡ before
-text_read_keeps {before = before} p = p.buffer ∙ keeps (read_refusal p.form (length before)) (length (table_read p.form)) (table_read p.form) before p.answer
+pub text_read_keeps : {text : List ℕ} {before after : List ℤ} {r : Refusal} → TextRead text before after (Err r) → after ≡ before
+text_read_keeps {before = before} p = p.buffer ∙ keeps (read_refusal p.form (length before)) (length (table_read p.form)) (table_read p.form) before _ p.answer
 
-pub text_written_keeps : {t : List ℤ} {before after : List ℕ} {r : Refusal} → TextWritten t before after (Refused r) → after ≡ before
-text_written_keeps {t} {before} p = p.buffer ∙ keeps (write_refusal t (length before)) (length (table_text t)) (table_text t) before p.answer
+pub text_written_keeps : {t : List ℤ} {before after : List ℕ} {r : Refusal} → TextWritten t before after (Err r) → after ≡ before
+text_written_keeps {t} {before} p = p.buffer ∙ keeps (write_refusal t (length before)) (length (table_text t)) (table_text t) before _ p.answer
 
 pub screen_searched_keeps : {t : List ℤ} {list : List ℕ} {codes : List ℤ} {frames : ℕ} {place : Place} {before after : List ℕ} {r : Refusal}
-    → ScreenSearched t list codes frames place before after (Refused r) → after ≡ before
+    → ScreenSearched t list codes frames place before after (Err r) → after ≡ before
 screen_searched_keeps {t} {list} {codes} {frames} {place} {before} p =
-    p.buffer ∙ keeps (screen_refusal t list codes frames (length before)) (triple_words * frames) (screen_triples t list codes frames place) before p.answer
+    p.buffer ∙ keeps (screen_refusal t list codes frames (length before)) (triple_words * frames) (screen_triples t list codes frames place) before _ p.answer
 
 pub picture_drawn_keeps : {t : List ℤ} {list : List ℕ} {q : Rectangle} {before after : List ℤ} {r : Refusal}
-    → PictureDrawn t list q before after (Refused r) → after ≡ before
+    → PictureDrawn t list q before after (Err r) → after ≡ before
 picture_drawn_keeps {t} {list} {q} {before} p =
-    p.buffer ∙ keeps (waterfall_refusal t list q (length before)) (picture_words q) (waterfall t list q) before p.answer
+    p.buffer ∙ keeps (waterfall_refusal t list q (length before)) (picture_words q) (waterfall t list q) before _ p.answer
 
 pub tree_rewritten_keeps : {t before after work cleared : List ℤ} {r : Refusal}
-    → TreeRewritten t before after work cleared (Refused r) → (after ≡ before) × (cleared ≡ work)
+    → TreeRewritten t before after work cleared (Err r) → (after ≡ before) × (cleared ≡ work)
 tree_rewritten_keeps {t} {before} {work = work} p =
     let rule : Option Refusal = rewrite_refusal t (length before) (length work) in
     let kept : (result buffer : List ℤ) → leave rule result buffer ≡ buffer
-    = λ result buffer. keeps rule (length (finished_rows t)) result buffer p.answer in
+    = λ result buffer. keeps rule (length (finished_rows t)) result buffer _ p.answer in
     (p.tree ∙ kept (finished_rows t) before, p.zeroed ∙ kept (replicate (length work) (pos 0)) work)
 
 -- ---- what stands in a buffer after a result: nothing where that is as long as the buffer, and else what stood there

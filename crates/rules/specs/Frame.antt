@@ -6,6 +6,7 @@ use Rattle.ground.specs.Lists.{below, all_of, any_of, count_if, find_if, first_o
 use Rattle.rules.specs.declared.Place.{Place}
 use Rattle.rules.specs.declared.Point.{Point}
 use Rattle.rules.specs.declared.Refusal.{Refusal}
+use Rattle.rules.specs.declared.Rule.TheVariants as rule
 use Rattle.rules.specs.Ranges.{Span, within, upwards, columns, frames}
 use Rattle.rules.specs.Boxes.{Box, holds}
 use Rattle.rules.specs.Refusals.{refuse_if, refuse_unless}
@@ -41,15 +42,15 @@ point_of place k code = record { x = column place k; y = code; z = place.frame }
 abbrev pub frame_refusal : List ℤ → Place → Option Refusal
 frame_refusal samples place =
     first_of
-    (refuse_if (eqb (length samples) 0 || ltb most_samples (length samples)) 12 0
-    ∷ refuse_unless (all_of (λ k. within columns (column place k)) (below (length samples))) 12 1
-    ∷ refuse_unless (within frames place.frame) 12 2
+    (refuse_if (eqb (length samples) 0 || ltb most_samples (length samples)) rule.Frame 0
+    ∷ refuse_unless (all_of (λ k. within columns (column place k)) (below (length samples))) rule.Frame 1
+    ∷ refuse_unless (within frames place.frame) rule.Frame 2
     ∷ [])
 
 -- the first sample that is out of a window (10)
 abbrev pub leaves_refusal : Box → List ℤ → Place → Option Refusal
 leaves_refusal window samples place =
-    rulings (λ k. refuse_unless (holds window (point_of place k (code_at samples k))) 10 k) 0 (length samples)
+    rulings (λ k. refuse_unless (holds window (point_of place k (code_at samples k))) rule.Outside k) 0 (length samples)
 
 -- over any way to be inside, that of a tree or that of a list
 module _ (is_inside : Point → Bool) (samples : List ℤ) (place : Place) where

@@ -1,9 +1,10 @@
 -- Section 2 of docs/RULES.md: the kinds of rows, as its table has them.
-use Rattle.std.specs.Prelude.{ℕ, Bool, true, false, List, [], ◌∷◌, ℤ, pos}
-use Rattle.std.proofs.Math.Option.{Option}
+use Rattle.std.specs.Prelude.{ℕ, Bool, true, false, List, [], ◌∷◌, ◌≡◌, ℤ, pos, Result, MatchResult}
+use Rattle.std.proofs.Math.Option.{Option, none, some}
 use Rattle.ground.specs.Tests.{eq_z}
 use Rattle.ground.specs.Lists.{find_if}
 use Rattle.rules.specs.declared.Kind.{Kind}
+use Rattle.rules.specs.declared.UnknownKind.{UnknownKind}
 use Rattle.rules.specs.declared.Kind.TheVariants.{Box, Wedge, Drum, Union, Inter, Diff, Triangle}
 
 abbrev pub kinds : List Kind
@@ -42,3 +43,7 @@ named_words Triangle = 8
 -- the kind that a word 0 names, if it names one
 abbrev pub kind_of : ℤ → Option Kind
 kind_of word = find_if (λ kind. eq_z word (pos (kind_number kind))) kinds
+
+-- the kind that a word names, or that it names none
+abbrev pub Names : ℤ → Result Kind UnknownKind → Type 0
+Names word r = MatchResult r (λ kind. kind_of word ≡ some kind) (λ _. kind_of word ≡ none)

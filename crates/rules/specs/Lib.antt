@@ -2,6 +2,7 @@ pub mod Ranges
 pub mod Boxes
 pub mod Kinds
 pub mod Table
+pub mod Rules
 pub mod Refusals
 pub mod Sides
 pub mod Fields

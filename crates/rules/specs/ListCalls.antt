@@ -6,14 +6,12 @@ use Rattle.std.specs.Int.Signed.{le_z}
 use Rattle.ground.specs.Lists.{below, first_of}
 use Rattle.rules.specs.declared.Axis.{Axis}
 use Rattle.rules.specs.declared.Axis.TheVariants.{Column, Code, Frame}
-use Rattle.rules.specs.declared.Located.{Located}
 use Rattle.rules.specs.declared.Place.{Place}
 use Rattle.rules.specs.declared.Point.{Point}
 use Rattle.rules.specs.declared.Rectangle.{Rectangle}
 use Rattle.rules.specs.declared.Refusal.{Refusal}
-use Rattle.rules.specs.declared.Searched.{Searched}
 use Rattle.rules.specs.declared.Window.{Window}
-use Rattle.rules.specs.declared.Written.{Written}
+use Rattle.rules.specs.declared.Rule.TheVariants as rule
 use Rattle.rules.specs.Ranges.{within, range}
 use Rattle.rules.specs.Table.{primitives}
 use Rattle.rules.specs.Verdict.{table_refusal}
@@ -25,7 +23,7 @@ use Rattle.rules.specs.ListFaults.{list_refusal, primitives_refusal}
 use Rattle.rules.specs.ListInside.{inside_list}
 use Rattle.rules.specs.Frame.{frame_refusal, leaves_refusal, first_inside, inside_count}
 use Rattle.rules.specs.Refusals.{refuse_unless, room_refusal}
-use Rattle.rules.specs.Told.{Told, wrote, tell, told_located, told_searched, told_written}
+use Rattle.rules.specs.Told.{Located, Searched, Written, Told, wrote, tell, told_located, told_searched, told_written}
 use Rattle.rules.specs.Screen.{frames_refusal, frame_at, later, triple_words, triple_of}
 use Rattle.rules.specs.Waterfall.{picture_words, rectangle_refusal, picture}
 use Rattle.rules.specs.Outcome.{leave}
@@ -37,7 +35,7 @@ most_choices = 65536
 -- the bounds of an axis, of which lo is bound i and hi the next: out of range, or hi below lo, blamed on hi (6)
 abbrev pub edges_refusals : Axis → ℤ → ℤ → ℕ → List (Option Refusal)
 edges_refusals axis lo hi i =
-    refuse_unless (within (range axis) lo) 6 i ∷ refuse_unless (within (range axis) hi && le_z lo hi) 6 (i + 1) ∷ []
+    refuse_unless (within (range axis) lo) rule.Bound i ∷ refuse_unless (within (range axis) hi && le_z lo hi) rule.Bound (i + 1) ∷ []
 
 abbrev pub window_refusal : Window → Option Refusal
 window_refusal w =
@@ -45,7 +43,7 @@ window_refusal w =
 
 -- too many ways of choosing (7)
 abbrev pub choices_refusal : ℕ → Option Refusal
-choices_refusal count = refuse_unless (leb count most_choices) 7 count
+choices_refusal count = refuse_unless (leb count most_choices) rule.Choices count
 
 -- make a list: table, 6, 7, 8
 unfoldable pub zone_list : List ℤ → Window → List ℕ

@@ -9,6 +9,7 @@ use Rattle.rules.specs.declared.Axis.TheVariants.{Column, Code, Frame}
 use Rattle.rules.specs.declared.Primitive.{Primitive}
 use Rattle.rules.specs.declared.Product.{Product}
 use Rattle.rules.specs.declared.Refusal.{Refusal}
+use Rattle.rules.specs.declared.Rule.TheVariants as rule
 use Rattle.rules.specs.ListWords.{header_words, most_word, word, bounds_word, primitives_word, product_count, primitive_count, place_of, product_at}
 use Rattle.rules.specs.Refusals.{refuse_if, refuse_unless}
 
@@ -25,8 +26,8 @@ count_right list = leb (product_count list) most_products && leb (place_of (prod
 -- bounds that stand in words i and i + 1 are at most `most`, and hi is not below lo
 abbrev pub words_refusals : List ℕ → ℕ → ℕ → List (Option Refusal)
 words_refusals list i most =
-    refuse_if (ltb most (word list i)) 9 i
-    ∷ refuse_if (ltb most (word list (i + 1)) || ltb (word list (i + 1)) (word list i)) 9 (i + 1)
+    refuse_if (ltb most (word list i)) rule.List i
+    ∷ refuse_if (ltb most (word list (i + 1)) || ltb (word list (i + 1)) (word list i)) rule.List (i + 1)
     ∷ []
 
 abbrev pub bounds_refusals : List ℕ → Axis → List (Option Refusal)
@@ -44,8 +45,8 @@ cuts_right n c = fits n c.cuts && eqb (bit_and c.plain c.cuts) 0
 
 abbrev pub product_refusals : List ℕ → ℕ → List (Option Refusal)
 product_refusals list k =
-    refuse_unless (plain_right (primitive_count list) (product_at list k)) 9 (place_of k)
-    ∷ refuse_unless (cuts_right (primitive_count list) (product_at list k)) 9 (place_of k + 1)
+    refuse_unless (plain_right (primitive_count list) (product_at list k)) rule.List (place_of k)
+    ∷ refuse_unless (cuts_right (primitive_count list) (product_at list k)) rule.List (place_of k + 1)
     ∷ []
 
 abbrev pub primitives_right : List ℕ → Bool
@@ -54,18 +55,18 @@ primitives_right list = leb 1 (primitive_count list) && leb (primitive_count lis
 -- the faults of words 0 to 7
 abbrev pub header_refusals : List ℕ → List (Option Refusal)
 header_refusals list =
-    refuse_unless (count_right list) 9 0
+    refuse_unless (count_right list) rule.List 0
     ∷ (bounds_refusals list Column
     ++ (bounds_refusals list Code
     ++ (bounds_refusals list Frame
-    ++ (refuse_unless (primitives_right list) 9 primitives_word ∷ []))))
+    ++ (refuse_unless (primitives_right list) rule.List primitives_word ∷ []))))
 
 unfoldable pub list_refusal : List ℕ → Option Refusal
 list_refusal list =
     first_of
-    (refuse_if (ltb (length list) header_words) 9 (length list)
+    (refuse_if (ltb (length list) header_words) rule.List (length list)
     ∷ (header_refusals list ++ flat_map (product_refusals list) (below (product_count list))))
 
 -- the list's number of primitives is not the table's (11)
 abbrev pub primitives_refusal : List Primitive → List ℕ → Option Refusal
-primitives_refusal solids list = refuse_unless (eqb (primitive_count list) (length solids)) 11 (length solids)
+primitives_refusal solids list = refuse_unless (eqb (primitive_count list) (length solids)) rule.Primitives (length solids)

@@ -5,6 +5,7 @@ use Rattle.std.proofs.Math.Option.{Option, none, some}
 use Rattle.ground.specs.Lists.{first_of}
 use Rattle.rules.specs.declared.Product.{Product}
 use Rattle.rules.specs.declared.Refusal.{Refusal}
+use Rattle.rules.specs.Rules.{number_of}
 use Rattle.rules.specs.Boxes.{full_range}
 use Rattle.rules.specs.Table.{primitives}
 use Rattle.rules.specs.Tree.{tree_of}
@@ -40,7 +41,7 @@ abbrev pub list_lines : List Product → List ℕ
 list_lines ps = count_line (length ps) ++ flat_map product_line ps
 
 abbrev pub refusal_line : Refusal → List ℕ
-refusal_line r = refused_name ++ (tab ∷ (word_text r.number ++ (tab ∷ (word_text r.value ++ (line_feed ∷ [])))))
+refusal_line r = refused_name ++ (tab ∷ (word_text (number_of r.rule) ++ (tab ∷ (word_text r.value ++ (line_feed ∷ [])))))
 
 abbrev pub printed : Option Refusal → List Product → List ℕ
 printed none ps = list_lines ps

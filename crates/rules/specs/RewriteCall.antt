@@ -3,7 +3,7 @@ use Rattle.std.specs.Prelude.{ℕ, ◌&&◌, List, [], ◌∷◌, ◌≡◌, leb
 use Rattle.std.proofs.Math.Option.{Option}
 use Rattle.ground.specs.Lists.{first_of}
 use Rattle.rules.specs.declared.Refusal.{Refusal}
-use Rattle.rules.specs.declared.Written.{Written}
+use Rattle.rules.specs.declared.Rule.TheVariants as rule
 use Rattle.rules.specs.Table.{primitives}
 use Rattle.rules.specs.Verdict.{table_refusal}
 use Rattle.rules.specs.Tree.{tree_of}
@@ -12,7 +12,7 @@ use Rattle.rules.specs.Form.{Form, form_of}
 use Rattle.rules.specs.Procedure.{normalize}
 use Rattle.rules.specs.TreeRows.{rows_from}
 use Rattle.rules.specs.Refusals.{refuse_unless}
-use Rattle.rules.specs.Told.{wrote, tell, told_written}
+use Rattle.rules.specs.Told.{Written, wrote, tell, told_written}
 use Rattle.rules.specs.Outcome.{leave}
 
 -- the primitives and the ways of choosing of a tree that is rewritten
@@ -37,9 +37,9 @@ abbrev pub rewrite_refusal : List ℤ → ℕ → ℕ → Option Refusal
 rewrite_refusal t room workRoom =
     first_of
     (table_refusal t
-    ∷ refuse_unless (leb (length (primitives t)) most_rewritten) 14 (length (primitives t))
-    ∷ refuse_unless (leb (expansion (tree_of t)) most_ways) 15 (expansion (tree_of t))
-    ∷ refuse_unless (leb rewrite_words room && leb rewrite_words workRoom) 8 rewrite_words
+    ∷ refuse_unless (leb (length (primitives t)) most_rewritten) rule.Leaves (length (primitives t))
+    ∷ refuse_unless (leb (expansion (tree_of t)) most_ways) rule.Ways (expansion (tree_of t))
+    ∷ refuse_unless (leb rewrite_words room && leb rewrite_words workRoom) rule.Room rewrite_words
     ∷ [])
 
 -- the finished tree lies over what was in its area; the work area is 0 to its end

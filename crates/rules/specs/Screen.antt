@@ -3,6 +3,7 @@ use Rattle.std.specs.Prelude.{ℕ, ◌+◌, ◌*◌, ◌/◌, ◌%◌, not, ◌|
 use Rattle.std.proofs.Math.Option.{Option}
 use Rattle.rules.specs.declared.Place.{Place}
 use Rattle.rules.specs.declared.Refusal.{Refusal}
+use Rattle.rules.specs.declared.Rule.TheVariants as rule
 use Rattle.rules.specs.Refusals.{refuse_if}
 use Rattle.rules.specs.Told.{Tale, sound, inside, outside, clear, hit, wrote, refusal, Told}
 
@@ -11,7 +12,7 @@ most_frames = 500
 
 -- no frame, too many, or codes that do not divide evenly (12)
 abbrev pub frames_refusal : List ℤ → ℕ → Option Refusal
-frames_refusal codes frames = refuse_if (eqb frames 0 || (ltb most_frames frames || not (eqb (length codes % frames) 0))) 12 0
+frames_refusal codes frames = refuse_if (eqb frames 0 || (ltb most_frames frames || not (eqb (length codes % frames) 0))) rule.Frame 0
 
 -- how many samples each frame has
 abbrev pub frame_length : List ℤ → ℕ → ℕ

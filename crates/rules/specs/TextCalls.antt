@@ -3,12 +3,12 @@ use Rattle.std.specs.Prelude.{ℕ, ◌≡◌, List, [], ◌∷◌, ℤ, length}
 use mathlib.Core.Option.{Option}
 use Rattle.ground.specs.Lists.{first_of}
 use Rattle.rules.specs.declared.Refusal.{Refusal}
-use Rattle.rules.specs.declared.Written.{Written}
+use Rattle.rules.specs.declared.Rule.TheVariants as rule
 use Rattle.rules.specs.Verdict.{table_refusal}
 use Rattle.rules.specs.Text.{text_of, text_rows, table_of}
 use Rattle.rules.specs.TextForm.{TextForm, too_long, faulty, spelt}
 use Rattle.rules.specs.Refusals.{refuse, room_refusal}
-use Rattle.rules.specs.Told.{wrote, tell, told_written}
+use Rattle.rules.specs.Told.{Written, wrote, tell, told_written}
 use Rattle.rules.specs.Outcome.{leave}
 
 -- read text: 13, table, 8
@@ -18,8 +18,8 @@ table_read (faulty line short fault) = []
 table_read (spelt rows short some_row not_over right is) = table_of rows
 
 abbrev pub form_refusal : {text : List ℕ} → TextForm text → Option Refusal
-form_refusal (too_long over) = refuse 13 0
-form_refusal (faulty line short fault) = refuse 13 line
+form_refusal (too_long over) = refuse rule.Text 0
+form_refusal (faulty line short fault) = refuse rule.Text line
 form_refusal (spelt rows short some_row not_over right is) = mathlib.Core.Option.none
 
 abbrev pub read_refusal : {text : List ℕ} → TextForm text → ℕ → Option Refusal

@@ -1,15 +1,26 @@
 -- Section 12 of docs/RULES.md: what each answer tells: the number of a refusal, 0 where nothing is refused, and the values that go with it.
-use Rattle.std.specs.Prelude.{ℕ}
+use Rattle.std.specs.Prelude.{ℕ, Bool, true, false, ⊤, Result, Ok, Err, Some, None}
+use Rattle.std.specs.Prelude as prelude
 use Rattle.std.proofs.Math.Option.{Option, none, some}
+use Rattle.rules.specs.declared.Hit.{Hit}
 use Rattle.rules.specs.declared.Refusal.{Refusal}
-use Rattle.rules.specs.declared.Checked.{Checked}
-use Rattle.rules.specs.declared.Checked.TheVariants as checked
-use Rattle.rules.specs.declared.Located.{Located}
-use Rattle.rules.specs.declared.Located.TheVariants as located
-use Rattle.rules.specs.declared.Searched.{Searched}
-use Rattle.rules.specs.declared.Searched.TheVariants as searched
-use Rattle.rules.specs.declared.Written.{Written}
-use Rattle.rules.specs.declared.Written.TheVariants as written
+use Rattle.rules.specs.Rules.{number_of}
+
+-- what the check of a table answers
+abbrev pub Checked : Type 0
+Checked = Result ⊤ Refusal
+
+-- what a question about one point answers: whether it is inside
+abbrev pub Located : Type 0
+Located = Result Bool Refusal
+
+-- what the search of a frame answers: the first inside sample and how many there are, or that there is none
+abbrev pub Searched : Type 0
+Searched = Result (prelude.Option Hit) Refusal
+
+-- what a call that writes answers: how many words or bytes it wrote
+abbrev pub Written : Type 0
+Written = Result ℕ Refusal
 
 pub data Tale : Type 0 where
   sound : Tale
@@ -29,26 +40,29 @@ pub record Told : Type 0 where
 abbrev pub fine : Tale → Told
 fine tale = record { number = 0; tale = tale }
 
+abbrev pub refused_by : ℕ → ℕ → Told
+refused_by number value = record { number = number; tale = refusal value }
+
 abbrev pub refused : Refusal → Told
-refused r = record { number = r.number; tale = refusal r.value }
+refused r = refused_by (number_of r.rule) r.value
 
 abbrev pub told_checked : Checked → Told
-told_checked checked.Sound = fine sound
-told_checked (checked.Refused r) = refused r
+told_checked (Ok _) = fine sound
+told_checked (Err r) = refused r
 
 abbrev pub told_located : Located → Told
-told_located located.Inside = fine inside
-told_located located.Outside = fine outside
-told_located (located.Refused r) = refused r
+told_located (Ok true) = fine inside
+told_located (Ok false) = fine outside
+told_located (Err r) = refused r
 
 abbrev pub told_searched : Searched → Told
-told_searched searched.Clear = fine clear
-told_searched (searched.Hit first count) = fine (hit first count)
-told_searched (searched.Refused r) = refused r
+told_searched (Ok None) = fine clear
+told_searched (Ok (Some found)) = fine (hit found.first found.count)
+told_searched (Err r) = refused r
 
 abbrev pub told_written : Written → Told
-told_written (written.Wrote n) = fine (wrote n)
-told_written (written.Refused r) = refused r
+told_written (Ok n) = fine (wrote n)
+told_written (Err r) = refused r
 
 -- a refusal where there is one, and else the tale
 abbrev pub tell : Option Refusal → Tale → Told

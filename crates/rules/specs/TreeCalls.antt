@@ -2,12 +2,10 @@
 use Rattle.std.specs.Prelude.{ℕ, Bool, ◌≡◌, List, [], ◌∷◌, ℤ, if◌then◌else◌}
 use Rattle.std.proofs.Math.Option.{Option, none, some}
 use Rattle.ground.specs.Lists.{first_of}
-use Rattle.rules.specs.declared.Checked.{Checked}
-use Rattle.rules.specs.declared.Located.{Located}
 use Rattle.rules.specs.declared.Place.{Place}
 use Rattle.rules.specs.declared.Point.{Point}
 use Rattle.rules.specs.declared.Refusal.{Refusal}
-use Rattle.rules.specs.declared.Searched.{Searched}
+use Rattle.rules.specs.declared.Rule.TheVariants as rule
 use Rattle.rules.specs.Ranges.{within}
 use Rattle.rules.specs.Boxes.{Box, everywhere}
 use Rattle.rules.specs.Verdict.{table_refusal}
@@ -15,11 +13,11 @@ use Rattle.rules.specs.Tree.{tree_of}
 use Rattle.rules.specs.Inside.{inside}
 use Rattle.rules.specs.Frame.{frame_refusal, first_inside, inside_count}
 use Rattle.rules.specs.Refusals.{refuse_unless}
-use Rattle.rules.specs.Told.{Tale, sound, inside as stands_inside, outside, clear, hit, tell, told_checked, told_located, told_searched}
+use Rattle.rules.specs.Told.{Checked, Located, Searched, Tale, sound, inside as stands_inside, outside, clear, hit, tell, told_checked, told_located, told_searched}
 
 -- the first axis on which a point is out, from whether it is in on each (10)
 abbrev pub axis_refusal : Bool → Bool → Bool → Option Refusal
-axis_refusal x y z = first_of (refuse_unless x 10 0 ∷ refuse_unless y 10 1 ∷ refuse_unless z 10 2 ∷ [])
+axis_refusal x y z = first_of (refuse_unless x rule.Outside 0 ∷ refuse_unless y rule.Outside 1 ∷ refuse_unless z rule.Outside 2 ∷ [])
 
 abbrev pub point_refusal : Box → Point → Option Refusal
 point_refusal box p = axis_refusal (within box.x p.x) (within box.y p.y) (within box.z p.z)

@@ -8,16 +8,17 @@ use Rattle.rules.specs.declared.Kind.{Kind}
 use Rattle.rules.specs.declared.Refusal.{Refusal}
 use Rattle.rules.specs.declared.Row.{Row}
 use Rattle.rules.specs.declared.Row.TheVariants.{Solid, Union, Inter, Diff}
+use Rattle.rules.specs.declared.Rule.TheVariants as rule
 use Rattle.rules.specs.Table.{row_words, most_rows, row_count, word_at, kind_at, row_at}
 use Rattle.rules.specs.Fields.{fields_right, spare_right, children_right}
 use Rattle.rules.specs.Refusals.{refuse, refuse_if, refuse_unless}
 
 abbrev pub length_refusal : List ℤ → Option Refusal
-length_refusal t = refuse_if (not (eqb (length t % row_words) 0) || (eqb (length t) 0 || ltb (most_rows * row_words) (length t))) 1 (length t)
+length_refusal t = refuse_if (not (eqb (length t % row_words) 0) || (eqb (length t) 0 || ltb (most_rows * row_words) (length t))) rule.Length (length t)
 
 abbrev pub row_refusal_by : Option Kind → (ℕ → ℤ) → ℕ → Option Refusal
-row_refusal_by none w row = refuse 2 row
-row_refusal_by (some k) w row = first_of (refuse_unless (fields_right k w && spare_right k w) 3 row ∷ refuse_unless (children_right k w row) 4 row ∷ [])
+row_refusal_by none w row = refuse rule.Kind row
+row_refusal_by (some k) w row = first_of (refuse_unless (fields_right k w && spare_right k w) rule.Fields row ∷ refuse_unless (children_right k w row) rule.Children row ∷ [])
 
 abbrev pub row_refusal : List ℤ → ℕ → Option Refusal
 row_refusal t row = row_refusal_by (kind_at t row) (word_at t row) row
@@ -40,7 +41,7 @@ abbrev pub child_once : List ℤ → ℕ → Bool
 child_once t row = eqb (count_if (eqb row) (children t)) 1
 
 abbrev pub child_refusal : List ℤ → Option Refusal
-child_refusal t = rulings (λ row. refuse_unless (child_once t row) 5 row) 0 (row_count t - 1)
+child_refusal t = rulings (λ row. refuse_unless (child_once t row) rule.Once row) 0 (row_count t - 1)
 
 unfoldable pub table_refusal : List ℤ → Option Refusal
 table_refusal t = first_of (length_refusal t ∷ rows_refusal t ∷ child_refusal t ∷ [])

@@ -7,6 +7,7 @@ use Rattle.ground.specs.Lists.{find_if, first_of}
 use Rattle.rules.specs.declared.Point.{Point}
 use Rattle.rules.specs.declared.Rectangle.{Rectangle}
 use Rattle.rules.specs.declared.Refusal.{Refusal}
+use Rattle.rules.specs.declared.Rule.TheVariants as rule
 use Rattle.rules.specs.Ranges.{Span, within, size_of, upwards, downwards}
 use Rattle.rules.specs.Boxes.{Box}
 use Rattle.rules.specs.Refusals.{refuse_unless}
@@ -32,8 +33,8 @@ picture_words r = size_of (columns_of r) * size_of (codes_of r)
 -- a side of a rectangle, of which lo is bound i: out of the window; or hi below lo or a side too long, both blamed on hi (6)
 abbrev pub side_refusals : Span → Span → ℕ → List (Option Refusal)
 side_refusals window side i =
-    refuse_unless (within window side.lo) 6 i
-    ∷ refuse_unless (within window side.hi && (le_z side.lo side.hi && lt_z (side.hi -ℤ side.lo) (pos most_side))) 6 (i + 1)
+    refuse_unless (within window side.lo) rule.Bound i
+    ∷ refuse_unless (within window side.hi && (le_z side.lo side.hi && lt_z (side.hi -ℤ side.lo) (pos most_side))) rule.Bound (i + 1)
     ∷ []
 
 abbrev pub rectangle_refusal : Box → Rectangle → Option Refusal

@@ -1,13 +1,34 @@
-// The types that the rules speak of, and their limits. What they mean stands in specs/; there is no function here.
+// The types that the rules speak of, and their limits. What they mean stands in specs/.
 
 #![tactic(auto)]
 
+ghost use Rattle.std.specs.Prelude.{◌≡◌};
+ghost use Rattle.std.specs.Prelude.{pos};
+ghost use Rattle.rules.specs.Boxes.{window_box};
+ghost use Rattle.rules.specs.Inside.{bounds};
+ghost use Rattle.rules.specs.Ranges.{within, range};
+ghost use Rattle.rules.specs.Kinds.{is_primitive, kind_number, named_words, Names};
+ghost use Rattle.rules.specs.Rules.{number_of};
+
 // The axes: sample columns, ADC codes, frame numbers.
-#[derive(Clone, Copy)]
+#[derive(Clone, Copy, Debug, PartialEq, Eq)]
 pub enum Axis {
     Column,
     Code,
     Frame,
+}
+
+impl Axis {
+    // A value lies in the range of the axis.
+    pub fn contains(self, v: i32) -> bool
+        ensures { result ≡ within (range self) v }
+    {
+        match self {
+            Axis::Column => (LEAST_COLUMN <= v) & (v <= GREATEST_COLUMN),
+            Axis::Code => (LEAST_CODE <= v) & (v <= GREATEST_CODE),
+            Axis::Frame => (LEAST_FRAME <= v) & (v <= GREATEST_FRAME),
+        }
+    }
 }
 
 // The greatest value of each axis; there are as many below 0 as from 0 on.
@@ -115,7 +136,7 @@ pub struct Place {
 }
 
 // The kinds of rows, as word 0 of a row names them.
-#[derive(Clone, Copy)]
+#[derive(Clone, Copy, Debug, PartialEq, Eq)]
 pub enum Kind {
     Box,
     Wedge,
@@ -126,6 +147,56 @@ pub enum Kind {
     Triangle,
 }
 
+// A word 0 that names no kind.
+#[derive(Clone, Copy, Debug, PartialEq, Eq)]
+pub struct UnknownKind(pub i32);
+
+impl TryFrom<i32> for Kind {
+    type Error = UnknownKind;
+
+    ghost try_from_gives = { Names };
+
+    fn try_from(word: i32) -> Result<Self, UnknownKind> {
+        match word {
+            0 => Ok(Kind::Box),
+            1 => Ok(Kind::Wedge),
+            2 => Ok(Kind::Drum),
+            3 => Ok(Kind::Union),
+            4 => Ok(Kind::Inter),
+            5 => Ok(Kind::Diff),
+            6 => Ok(Kind::Triangle),
+            _ => Err(UnknownKind(word)),
+        }
+    }
+}
+
+impl Kind {
+    // Word 0 of a row of this kind.
+    pub fn number(self) -> i32
+        ensures { result ≡ pos (kind_number self) }
+    {
+        self as i32
+    }
+
+    pub fn is_primitive(self) -> bool
+        ensures { result ≡ is_primitive self }
+    {
+        !matches!(self, Kind::Union | Kind::Inter | Kind::Diff)
+    }
+
+    // How many words it names after word 0.
+    pub fn named_words(self) -> usize
+        ensures { result ≡ named_words self }
+    {
+        match self {
+            Kind::Box | Kind::Drum => 6,
+            Kind::Wedge => 10,
+            Kind::Union | Kind::Inter | Kind::Diff => 2,
+            Kind::Triangle => 8,
+        }
+    }
+}
+
 #[derive(Clone, Copy)]
 pub struct BoxShape {
     pub xlo: i32,
@@ -134,6 +205,21 @@ pub struct BoxShape {
     pub yhi: i32,
     pub zlo: i32,
     pub zhi: i32,
+}
+
+impl From<Window> for BoxShape {
+    ghost from_gives = { λ w b. bounds b ≡ window_box w };
+
+    fn from(w: Window) -> Self {
+        BoxShape {
+            xlo: w.xlo,
+            xhi: w.xhi,
+            ylo: w.ylo,
+            yhi: w.yhi,
+            zlo: w.zlo,
+            zhi: w.zhi,
+        }
+    }
 }
 
 // The part of a box where ax + by + cz <= d.
@@ -192,45 +278,62 @@ pub enum Row {
 }
 
 // Two sets of primitives, primitive i as bit i: those a point is in, and those it is out of, the cuts.
-#[derive(Clone, Copy)]
+#[derive(Clone, Copy, Debug, PartialEq, Eq)]
 pub struct Product {
     pub plain: u64,
     pub cuts: u64,
 }
 
-// Why a call did nothing: a number of the rules' table of refusals, and the value that goes with it.
-#[derive(Clone, Copy)]
+// The rules' table of refusals, in its order: which rule is broken.
+#[derive(Clone, Copy, Debug, PartialEq, Eq)]
+pub enum Rule {
+    Length,
+    Kind,
+    Fields,
+    Children,
+    Once,
+    Bound,
+    Choices,
+    Room,
+    List,
+    Outside,
+    Primitives,
+    Frame,
+    Text,
+    Leaves,
+    Ways,
+}
+
+impl Rule {
+    // The number of a rule in the table of refusals.
+    pub fn number(self) -> u64
+        ensures { result ≡ number_of self }
+    {
+        self as u64 + 1
+    }
+}
+
+// Why a call did nothing: the rule that is broken, and the value that goes with it.
+#[derive(Clone, Copy, Debug, PartialEq, Eq)]
 pub struct Refusal {
-    pub number: u64,
+    pub rule: Rule,
     pub value: u64,
 }
 
-// What the check of a table answers.
-#[derive(Clone, Copy)]
-pub enum Checked {
-    Sound,
-    Refused(Refusal),
+impl Refusal {
+    pub fn new(rule: Rule, value: usize) -> Self
+        ensures { result ≡ record { rule = rule; value = value } }
+    {
+        Refusal {
+            rule,
+            value: value as u64,
+        }
+    }
 }
 
-// What a question about one point answers.
-#[derive(Clone, Copy)]
-pub enum Located {
-    Inside,
-    Outside,
-    Refused(Refusal),
-}
-
-// What the search of a frame answers.
-#[derive(Clone, Copy)]
-pub enum Searched {
-    Clear,
-    Hit { first: usize, count: usize },
-    Refused(Refusal),
-}
-
-// What a call that writes answers: how many words or bytes it wrote.
-#[derive(Clone, Copy)]
-pub enum Written {
-    Wrote(usize),
-    Refused(Refusal),
+// The first inside sample of a frame, and how many of its samples are inside.
+#[derive(Clone, Copy, Debug, PartialEq, Eq)]
+pub struct Hit {
+    pub first: usize,
+    pub count: usize,
 }

@@ -4,53 +4,35 @@ use native.Mathlib.Omega.{arith}
 use mathlib.Core.Bool.{Bool, true, false, not, ◌&&◌, ◌||◌}
 use mathlib.Core.List.{List}
 use mathlib.Core.Option.{Option, none, some}
-use mathlib.Core.Path.{◌≡◌, refl, sym, ap, ◌∙◌}
-use borrow.Author.Tests.{eq-eqb, ne_eqb}
+use mathlib.Core.Path.{◌≡◌, sym, ap, ◌∙◌}
 use lib.IntN.{ℤ}
 use lib.Dec.{eqb, ltb}
-use lib.ListN.{length, get_or}
+use lib.ListN.{length}
 use Rattle.ground.specs.Lists.{or_else, first_of, rulings}
 use Rattle.ground.proofs.Counting.{or_else_none, rulings_same, rulings_none}
 use Rattle.rules.specs.declared.Kind.{Kind}
 use Rattle.rules.specs.declared.Refusal.{Refusal}
+use Rattle.rules.specs.declared.Rule.TheVariants as rule
 use Rattle.rules.specs.Fields.{fields_right, spare_right, children_right}
 use Rattle.rules.specs.Refusals.{refuse, refuse_if, refuse_unless}
 use Rattle.rules.specs.Table.{row_words, most_rows, row_count}
 use Rattle.rules.specs.Verdict.{length_refusal, row_refusal_by, row_refusal, rows_refusal, child_once, child_refusal, table_refusal}
 use Rattle.laws.proofs.Soundness.{sound_row, whole_table}
-use Rattle.table.specs.declared.Named.TheVariants as named
-use Rattle.table.specs.Reading.{named_by, times_to, once_rule, SoundRows}
+use Rattle.table.specs.Reading.{times_to, once_rule, SoundRows}
 use Rattle.table.proofs.Tally.{times_at}
 
 module _ (k : Kind) (w : ℕ → ℤ) (row : ℕ) where
-  pub fields_wrong : (fields_right k w && spare_right k w) ≡ false → row_refusal_by (some k) w row ≡ refuse 3 row
+  pub fields_wrong : (fields_right k w && spare_right k w) ≡ false → row_refusal_by (some k) w row ≡ refuse rule.Fields row
   unfolding first_of
   fields_wrong h = rw h
 
-  pub children_wrong : (fields_right k w && spare_right k w) ≡ true → children_right k w row ≡ false → row_refusal_by (some k) w row ≡ refuse 4 row
+  pub children_wrong : (fields_right k w && spare_right k w) ≡ true → children_right k w row ≡ false → row_refusal_by (some k) w row ≡ refuse rule.Children row
   unfolding first_of
   children_wrong h g = rw (h, g)
 
   pub row_right : (fields_right k w && spare_right k w) ≡ true → children_right k w row ≡ true → row_refusal_by (some k) w row ≡ none
   unfolding first_of
   row_right h g = rw (h, g)
-
--- a row by the kind that its word 0 names
-module _ (w : ℕ → ℤ) (row : ℕ) where
-  pub unknown : (x : Option Kind) → named.Unknown ≡ named_by x → row_refusal_by x w row ≡ refuse 2 row
-  unknown none e = refl
-  unknown (some k) e = cc
-
-  pub known : (x : Option Kind) {k : Kind} → named.Known k ≡ named_by x → row_refusal_by x w row ≡ row_refusal_by (some k) w row
-  known none e = cc
-  known (some l) {k} e = let s : l ≡ k = cc in ap (λ (j : Kind). row_refusal_by (some j) w row) s
-
--- a row's tally was tested against 1
-pub once_no : (times : List ℕ) (row : ℕ) → (get_or times row 0 ≡ 1 → ⊥) → once_rule times row ≡ refuse 5 row
-once_no times row h = rw (ne_eqb (get_or times row 0) 1 h)
-
-pub once_yes : (times : List ℕ) (row : ℕ) → get_or times row 0 ≡ 1 → once_rule times row ≡ none
-once_yes times row h = rw (eq-eqb (get_or times row 0) 1 h)
 
 -- ---- the whole table
 
@@ -59,12 +41,12 @@ module _ (t : List ℤ) where
   abbrev pub wrong_length : Bool
   wrong_length = not (eqb (length t % row_words) 0) || (eqb (length t) 0 || ltb (most_rows * row_words) (length t))
 
-  pub length_wrong : wrong_length ≡ true → table_refusal t ≡ refuse 1 (length t)
+  pub length_wrong : wrong_length ≡ true → table_refusal t ≡ refuse rule.Length (length t)
   unfolding table_refusal first_of
-  length_wrong h = ap (λ (b : Bool). or_else (refuse_if b 1 (length t)) (or_else (rows_refusal t) (or_else (child_refusal t) none))) h
+  length_wrong h = ap (λ (b : Bool). or_else (refuse_if b rule.Length (length t)) (or_else (rows_refusal t) (or_else (child_refusal t) none))) h
 
   pub length_right : wrong_length ≡ false → length_refusal t ≡ none
-  length_right h = ap (λ (b : Bool). refuse_if b 1 (length t)) h
+  length_right h = ap (λ (b : Bool). refuse_if b rule.Length (length t)) h
 
   module _ (l : length_refusal t ≡ none) where
     rows_next : table_refusal t ≡ or_else (rows_refusal t) (child_refusal t)
@@ -84,5 +66,5 @@ module _ (t : List ℤ) where
 
 -- the tally gives each row's rule
 pub once_rules : (t : List ℤ) → row_count t ≤ most_rows → rulings (once_rule (times_to t (row_count t))) 0 (row_count t - 1) ≡ child_refusal t
-once_rules t h = rulings_same (once_rule (times_to t (row_count t))) (λ row. refuse_unless (child_once t row) 5 row) (row_count t - 1)
-    (λ row b. ap (λ (n : ℕ). refuse_unless (eqb n 1) 5 row) (times_at t (row_count t) row (omega arith)))
+once_rules t h = rulings_same (once_rule (times_to t (row_count t))) (λ row. refuse_unless (child_once t row) rule.Once row) (row_count t - 1)
+    (λ row b. ap (λ (n : ℕ). refuse_unless (eqb n 1) rule.Once row) (times_at t (row_count t) row (omega arith)))

@@ -19,22 +19,8 @@ use Rattle.rules.specs.Kinds.{is_primitive, kind_number, kind_of}
 use Rattle.rules.specs.Table.{row_count, word_at, operation, row_of, row_by, kind_at, row_at}
 use Rattle.rules.specs.Fields.{is_earlier}
 use Rattle.laws.specs.Sound.{SoundRow, Sound}
-use Rattle.laws.proofs.KindNumbers.{number_kind, number_of_kind, no_kind}
-use Rattle.table.specs.declared.Named.TheVariants as named
-use Rattle.table.specs.Reading.{InTable, IsOperation, named_by}
-
--- ---- a kind from its number
-
-pub known : (k : Kind) {z : ℤ} → z ≡ pos (kind_number k) → named.Known k ≡ named_by (kind_of z)
-known k e = ap named_by (sym (number_kind k)) ∙ ap (λ (z : ℤ). named_by (kind_of z)) (sym e)
-
--- none of the numbers is its own
-module _ (z : ℤ) (f : (k : Kind) → of_z w32 z ≡ kind_number k → ⊥) where
-  pub none_of : kind_of z ≡ none
-  none_of = no_kind z (λ k e. f k (small k (ap (of_z w32) e)))
-    where
-      small : (k : Kind) → of_z w32 z ≡ of_z w32 (pos (kind_number k)) → of_z w32 z ≡ kind_number k
-      small k e = e
+use Rattle.rules.proofs.KindNumbers.{number_kind, number_of_kind}
+use Rattle.table.specs.Reading.{InTable, IsOperation}
 
 -- ---- a row from its kind
 

@@ -1,20 +1,19 @@
 -- What the reading of a table and its check answer, as values.
 use Rattle.std.specs.Prelude.{ℕ, ◌+◌, ◌*◌, ◌≤◌, ◌<◌, false, ◌≡◌, T, eqb, ℤ, length, get_or, set, replicate}
+use Rattle.std.specs.Prelude.{Some, None}
+use Rattle.std.specs.Prelude as prelude
 use mathlib.Core.List.{List, [], ◌∷◌, flat_map}
-use Rattle.std.proofs.Math.Option.{Option, none, some}
+use Rattle.std.proofs.Math.Option.{Option, some}
 use Rattle.std.specs.Int.Signed.{non_neg}
 use Rattle.ground.specs.Lists.{below}
 use Rattle.rules.specs.declared.Kind.{Kind}
 use Rattle.rules.specs.declared.Refusal.{Refusal}
+use Rattle.rules.specs.declared.Rule.TheVariants as rule
 use Rattle.rules.specs.Kinds.{is_primitive, kind_of}
 use Rattle.rules.specs.Table.{row_words, word_at, row_at}
 use Rattle.rules.specs.Refusals.{refuse_unless}
 use Rattle.rules.specs.Verdict.{children_of}
 use Rattle.laws.specs.Sound.{SoundRow}
-use Rattle.table.specs.declared.Named.{Named}
-use Rattle.table.specs.declared.Named.TheVariants as named
-use Rattle.table.specs.declared.Children.{Children}
-use Rattle.table.specs.declared.Children.TheVariants as children
 
 -- the table has the row whole
 pub record InTable (t : List ℤ) (row : ℕ) : Type 0 where
@@ -29,14 +28,10 @@ pub record IsOperation (t : List ℤ) (row : ℕ) (kind : ℤ) : Type 0 where
   pub left : T (non_neg (word_at t row 1))
   pub right : T (non_neg (word_at t row 2))
 
-abbrev pub named_by : Option Kind → Named
-named_by none = named.Unknown
-named_by (some k) = named.Known k
-
 -- the children that an answer names
-abbrev pub listed : Children → List ℕ
-listed children.None = []
-listed (children.Two left right) = left ∷ right ∷ []
+abbrev pub listed : prelude.Option (ℕ × ℕ) → List ℕ
+listed None = []
+listed (Some (left, right)) = left ∷ right ∷ []
 
 -- the children that the first n rows name
 abbrev pub children_to : List ℤ → ℕ → List ℕ
@@ -63,4 +58,4 @@ times_to t n = tallied (replicate 127 0) (children_to t n)
 
 -- the rule that a row is a child once, by such a tally
 abbrev pub once_rule : List ℕ → ℕ → Option Refusal
-once_rule times row = refuse_unless (eqb (get_or times row 0) 1) 5 row
+once_rule times row = refuse_unless (eqb (get_or times row 0) 1) rule.Once row

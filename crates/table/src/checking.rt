@@ -9,70 +9,57 @@ ghost use Rattle.laws.specs.Checking.{checked_by};
 ghost use Rattle.laws.specs.Sound.{SoundRow};
 ghost use Rattle.table.specs.Reading.{InTable, listed, SoundRows, times_to, once_rule};
 
-use crate::{Children, Named};
-use rules::{Checked, Kind, Refusal, Row};
+use rules::{Kind, Refusal, Row, Rule};
 
 // A row of a known kind: fields and spare words, then children.
-fn check_known(table: &[i32], row: usize, kind: Kind) -> Checked
+fn check_known(table: &[i32], row: usize, kind: Kind) -> Result<(), Refusal>
     requires in_table { InTable table.now row }
     requires row_bound { row ≤ 127 }
     ensures { result ≡ checked_by (row_refusal_by (some kind) (word_at table.now row) row) }
 {
-    let start = 1 + crate::fields::named_words(kind);
+    let start = 1 + kind.named_words();
     let right = crate::fields::fields_right(table, row, kind)
         & crate::fields::spare_right(table, row, start);
-    if !right {
-        return crate::refusals::refused(3, row);
-    }
-    if !crate::fields::children_right(table, row, kind) {
-        return crate::refusals::refused(4, row);
-    }
-    Checked::Sound
+    crate::refuse_unless(right, Rule::Fields, row)?;
+    crate::refuse_unless(
+        crate::fields::children_right(table, row, kind),
+        Rule::Children,
+        row,
+    )
 }
 
-fn check_row(table: &[i32], row: usize) -> Checked
+fn check_row(table: &[i32], row: usize) -> Result<(), Refusal>
     requires in_table { InTable table.now row }
     requires row_bound { row ≤ 127 }
     ensures { result ≡ checked_by (row_refusal table.now row) }
 {
-    let named = crate::decode::kind_of(crate::decode::word(table, row, 0));
-    match named {
-        Named::Unknown => crate::refusals::refused(2, row),
-        Named::Known(kind) => check_known(table, row, kind),
+    match Kind::try_from(crate::decode::word(table, row, 0)) {
+        Ok(kind) => check_known(table, row, kind),
+        Err(_) => Err(Refusal::new(Rule::Kind, row)),
     }
 }
 
-fn check_rows(table: &[i32], rows: usize) -> Checked
+fn check_rows(table: &[i32], rows: usize) -> Result<(), Refusal>
     requires { (length table.now ≡ rows * 12) × ((1 ≤ rows) × (rows ≤ 127)) }
     ensures { result ≡ checked_by (rulings (row_refusal table.now) 0 rows) }
 {
-    let last = rows - 1;
-    let mut row: usize = 0;
-    while row <= last {
-        let checked = check_row(table, row);
-        match checked {
-            Checked::Refused(refusal) => {
-                return Checked::Refused(refusal);
-            }
-            Checked::Sound => {}
-        }
-        row += 1;
+    for row in 0..rows {
+        check_row(table, row)?;
     }
-    Checked::Sound
+    Ok(())
 }
 
 // The children that a sound row names.
-fn children_of(table: &[i32], row: usize) -> Children
+fn children_of(table: &[i32], row: usize) -> Option<(usize, usize)>
     requires in_table { InTable table.now row }
     requires sound_row { SoundRow table.now row }
     ensures { listed result ≡ children_of (row_at table.now row) }
 {
-    let reads = crate::decode::read_row(table, row);
-    match reads {
-        Row::Solid(_) => Children::None,
-        Row::Union(left, right) => Children::Two(left, right),
-        Row::Inter(left, right) => Children::Two(left, right),
-        Row::Diff(left, right) => Children::Two(left, right),
+    match crate::decode::read_row(table, row) {
+        Row::Solid(_) => None,
+        Row::Union(left, right) | Row::Inter(left, right) | Row::Diff(left, right) => {
+            Some((left, right))
+        }
     }
 }
 
@@ -84,13 +71,9 @@ fn count_children(times: &mut [u8; 127], table: &[i32], row: usize)
     requires row_bound { row < 127 }
     ensures { times.new ≡ times_to table.now (row + 1) }
 {
-    let named = children_of(table, row);
-    match named {
-        Children::Two(left, right) => {
-            times[left] += 1;
-            times[right] += 1;
-        }
-        Children::None => {}
+    if let Some((left, right)) = children_of(table, row) {
+        times[left] += 1;
+        times[right] += 1;
     }
 }
 
@@ -100,30 +83,24 @@ fn child_times(table: &[i32], rows: usize) -> [u8; 127]
     ensures { result ≡ times_to table.now rows }
 {
     let mut times: [u8; 127] = [0; 127];
-    let mut row: usize = 0;
-    while row < rows {
-        count_children(&mut times, table, row);
-        row += 1;
+    for parent in 0..rows {
+        count_children(&mut times, table, parent);
     }
     times
 }
 
 // Every row below `last` is a child once.
-fn check_once(times: &[u8; 127], last: usize) -> Checked
+fn check_once(times: &[u8; 127], last: usize) -> Result<(), Refusal>
     requires { last ≤ 126 }
     ensures { result ≡ checked_by (rulings (once_rule times.now) 0 last) }
 {
-    let mut row: usize = 0;
-    while row < last {
-        if times[row] != 1 {
-            return crate::refusals::refused(5, row);
-        }
-        row += 1;
+    for row in 0..last {
+        crate::refuse_unless(times[row] == 1, Rule::Once, row)?;
     }
-    Checked::Sound
+    Ok(())
 }
 
-fn check_children(table: &[i32], rows: usize) -> Checked
+fn check_children(table: &[i32], rows: usize) -> Result<(), Refusal>
     requires { SoundRows table.now rows }
     ensures { result ≡ checked_by (child_refusal table.now) }
 {
@@ -132,24 +109,19 @@ fn check_children(table: &[i32], rows: usize) -> Checked
 }
 
 // The whole check: the length, each row, then the children.
-pub fn check(table: &[i32]) -> Checked
+pub fn check(table: &[i32]) -> Result<(), Refusal>
     ensures { result ≡ checked_by (table_refusal table.now) }
 {
     let words = table.len();
-    if (words % rules::ROW_WORDS != 0)
-        | ((words == 0) | (rules::MOST_ROWS * rules::ROW_WORDS < words))
-    {
-        return crate::refusals::refused(1, words);
-    }
+    let broken = (words % rules::ROW_WORDS != 0)
+        | ((words == 0) | (rules::MOST_ROWS * rules::ROW_WORDS < words));
+    crate::refuse_if(broken, Rule::Length, words)?;
     let rows = words / rules::ROW_WORDS;
-    let checked = check_rows(table, rows);
-    match checked {
-        Checked::Refused(refusal) => Checked::Refused(refusal),
-        Checked::Sound => check_children(table, rows),
-    }
+    check_rows(table, rows)?;
+    check_children(table, rows)
 }
 
-pub fn check_table(table: &[i32]) -> Checked
+pub fn check_table(table: &[i32]) -> Result<(), Refusal>
     ensures { TableChecked table.now result }
 {
     check(table)

@@ -2,12 +2,10 @@
 ghost use Rattle.std.specs.Prelude.{◌+◌, ◌*◌, ◌<◌, ◌≡◌, T, pos, length};
 ghost use Rattle.std.proofs.Math.Option.{some};
 ghost use Rattle.std.specs.Int.Signed.{non_neg};
-ghost use Rattle.rules.specs.Kinds.{kind_of};
 ghost use Rattle.rules.specs.Table.{word_at, box_shape, wedge_shape, drum_shape, corner, triangle_shape, row_at};
 ghost use Rattle.laws.specs.Sound.{SoundRow};
-ghost use Rattle.table.specs.Reading.{InTable, IsOperation, named_by};
+ghost use Rattle.table.specs.Reading.{InTable, IsOperation};
 
-use crate::Named;
 use rules::{BoxShape, Corner, DrumShape, Kind, Primitive, Row, TriangleShape, WedgeShape};
 
 // Word k of a row.
@@ -16,21 +14,6 @@ pub fn word(table: &[i32], row: usize, k: usize) -> i32
     ensures { result ≡ word_at table.now row k }
 {
     table[row * rules::ROW_WORDS + k]
-}
-
-pub fn kind_of(kind: i32) -> Named
-    ensures { result ≡ named_by (kind_of kind) }
-{
-    match kind {
-        0 => Named::Known(Kind::Box),
-        1 => Named::Known(Kind::Wedge),
-        2 => Named::Known(Kind::Drum),
-        3 => Named::Known(Kind::Union),
-        4 => Named::Known(Kind::Inter),
-        5 => Named::Known(Kind::Diff),
-        6 => Named::Known(Kind::Triangle),
-        _ => Named::Unknown,
-    }
 }
 
 pub fn box_at(table: &[i32], row: usize) -> BoxShape

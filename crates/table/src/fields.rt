@@ -2,36 +2,38 @@
 ghost use Rattle.std.specs.Prelude.{◌+◌, ◌≤◌, ◌<◌, ◌≡◌, pos};
 ghost use Rattle.ground.specs.Tests.{eq_z};
 ghost use Rattle.ground.specs.Lists.{rest, all_of};
-ghost use Rattle.rules.specs.Kinds.{is_primitive, named_words};
+ghost use Rattle.rules.specs.Ranges.{within, range};
 ghost use Rattle.rules.specs.Table.{word_at};
-ghost use Rattle.rules.specs.Fields.{ends_right, box_right, slopes_right, wedge_right, reach_right, drum_right, corner_right, triangle_right, fields_right, is_earlier, children_right};
+ghost use Rattle.rules.specs.Fields.{slopes, ends_right, box_right, slopes_right, wedge_right, reach_right, drum_right, corner_right, triangle_right, fields_right, is_earlier, children_right};
 ghost use Rattle.table.specs.Reading.{InTable};
 
-use rules::{BoxShape, Corner, DrumShape, Kind, TriangleShape, WedgeShape};
+use rules::{Axis, BoxShape, Corner, DrumShape, Kind, TriangleShape, WedgeShape};
 
-// Both ends are in a range, and lo <= hi.
-fn ends_right(least: i32, greatest: i32, lo: i32, hi: i32) -> bool
-    ensures { result ≡ ends_right (record { lo = least; hi = greatest }) lo hi }
+// Both ends are in the range of an axis, and lo <= hi.
+fn ends_right(axis: Axis, lo: i32, hi: i32) -> bool
+    ensures { result ≡ ends_right (range axis) lo hi }
 {
-    ((least <= lo) & (lo <= greatest)) & (((least <= hi) & (hi <= greatest)) & (lo <= hi))
+    axis.contains(lo) & (axis.contains(hi) & (lo <= hi))
 }
 
 fn box_right(b: BoxShape) -> bool
     ensures { result ≡ box_right b }
 {
-    ends_right(rules::LEAST_COLUMN, rules::GREATEST_COLUMN, b.xlo, b.xhi)
-        & (ends_right(rules::LEAST_CODE, rules::GREATEST_CODE, b.ylo, b.yhi)
-            & ends_right(rules::LEAST_FRAME, rules::GREATEST_FRAME, b.zlo, b.zhi))
+    ends_right(Axis::Column, b.xlo, b.xhi)
+        & (ends_right(Axis::Code, b.ylo, b.yhi) & ends_right(Axis::Frame, b.zlo, b.zhi))
+}
+
+fn is_slope(v: i32) -> bool
+    ensures { result ≡ within slopes v }
+{
+    (rules::LEAST_SLOPE <= v) & (v <= rules::GREATEST_SLOPE)
 }
 
 // The slopes are in range, and not all 0.
 fn slopes_right(a: i32, b: i32, c: i32) -> bool
     ensures { result ≡ slopes_right a b c }
 {
-    ((rules::LEAST_SLOPE <= a) & (a <= rules::GREATEST_SLOPE))
-        & (((rules::LEAST_SLOPE <= b) & (b <= rules::GREATEST_SLOPE))
-            & (((rules::LEAST_SLOPE <= c) & (c <= rules::GREATEST_SLOPE))
-                & !((a == 0) & ((b == 0) & (c == 0)))))
+    is_slope(a) & (is_slope(b) & (is_slope(c) & !((a == 0) & ((b == 0) & (c == 0)))))
 }
 
 fn wedge_right(w: WedgeShape) -> bool
@@ -60,14 +62,13 @@ fn drum_right(d: DrumShape) -> bool
 {
     reach_right(rules::LEAST_COLUMN, rules::GREATEST_COLUMN, d.cx, d.rx)
         & (reach_right(rules::LEAST_CODE, rules::GREATEST_CODE, d.cy, d.ry)
-            & ends_right(rules::LEAST_FRAME, rules::GREATEST_FRAME, d.zlo, d.zhi))
+            & ends_right(Axis::Frame, d.zlo, d.zhi))
 }
 
 fn corner_right(c: Corner) -> bool
     ensures { result ≡ corner_right c }
 {
-    ((rules::LEAST_COLUMN <= c.x) & (c.x <= rules::GREATEST_COLUMN))
-        & ((rules::LEAST_CODE <= c.y) & (c.y <= rules::GREATEST_CODE))
+    Axis::Column.contains(c.x) & Axis::Code.contains(c.y)
 }
 
 // The area is worked out only where its corners are in range.
@@ -81,8 +82,7 @@ fn triangle_right(t: TriangleShape) -> bool
     if !in_range {
         return false;
     }
-    ends_right(rules::LEAST_FRAME, rules::GREATEST_FRAME, t.zlo, t.zhi)
-        & (solid::side(a, b, c.x, c.y) != 0)
+    ends_right(Axis::Frame, t.zlo, t.zhi) & (solid::side(a, b, c.x, c.y) != 0)
 }
 
 pub fn fields_right(table: &[i32], row: usize, kind: Kind) -> bool
@@ -93,25 +93,8 @@ pub fn fields_right(table: &[i32], row: usize, kind: Kind) -> bool
         Kind::Box => box_right(crate::decode::box_at(table, row)),
         Kind::Wedge => wedge_right(crate::decode::wedge_at(table, row)),
         Kind::Drum => drum_right(crate::decode::drum_at(table, row)),
-        Kind::Union => true,
-        Kind::Inter => true,
-        Kind::Diff => true,
+        Kind::Union | Kind::Inter | Kind::Diff => true,
         Kind::Triangle => triangle_right(crate::decode::triangle_at(table, row)),
-    }
-}
-
-// How many words a kind names after word 0.
-pub fn named_words(kind: Kind) -> usize
-    ensures { result ≡ named_words kind }
-{
-    match kind {
-        Kind::Box => 6,
-        Kind::Wedge => 10,
-        Kind::Drum => 6,
-        Kind::Union => 2,
-        Kind::Inter => 2,
-        Kind::Diff => 2,
-        Kind::Triangle => 8,
     }
 }
 
@@ -120,28 +103,12 @@ pub fn spare_right(table: &[i32], row: usize, start: usize) -> bool
     requires { InTable table.now row }
     ensures { result ≡ all_of (λ i. eq_z (word_at table.now row i) (pos 0)) (rest start 12) }
 {
-    let mut k = start;
-    while k < rules::ROW_WORDS {
+    for k in start..rules::ROW_WORDS {
         if crate::decode::word(table, row, k) != 0 {
             return false;
         }
-        k += 1;
     }
     true
-}
-
-fn is_primitive(kind: Kind) -> bool
-    ensures { result ≡ is_primitive kind }
-{
-    match kind {
-        Kind::Box => true,
-        Kind::Wedge => true,
-        Kind::Drum => true,
-        Kind::Union => false,
-        Kind::Inter => false,
-        Kind::Diff => false,
-        Kind::Triangle => true,
-    }
 }
 
 // A word names an earlier row.
@@ -157,7 +124,7 @@ pub fn children_right(table: &[i32], row: usize, kind: Kind) -> bool
     requires row_bound { row ≤ 127 }
     ensures { result ≡ children_right kind (word_at table.now row) row }
 {
-    if is_primitive(kind) {
+    if kind.is_primitive() {
         return true;
     }
     is_earlier(row, crate::decode::word(table, row, 1))

@@ -1,44 +1,24 @@
-// Checks as values: what a rule that is kept or broken answers, and the first of two that refuses.
+// Checks as values: what a rule that is kept or broken answers.
 ghost use Rattle.std.specs.Prelude.{◌≡◌};
-ghost use Rattle.rules.specs.Refusals.{refuse, refuse_if, refuse_unless};
-ghost use Rattle.laws.specs.Checking.{checked_by, first_refused};
+ghost use Rattle.rules.specs.Refusals.{refuse_if, refuse_unless};
+ghost use Rattle.laws.specs.Checking.{checked_by};
 
-use rules::{Checked, Refusal};
+use rules::{Refusal, Rule};
 
-// A refusal as the answer of a check.
-pub fn refused(number: u64, value: usize) -> Checked
-    ensures { result ≡ checked_by (refuse number value) }
-{
-    Checked::Refused(Refusal {
-        number,
-        value: value as u64,
-    })
-}
-
-pub fn refuse_if(broken: bool, number: u64, value: usize) -> Checked
-    ensures { result ≡ checked_by (refuse_if broken number value) }
+pub fn refuse_if(broken: bool, rule: Rule, value: usize) -> Result<(), Refusal>
+    ensures { result ≡ checked_by (refuse_if broken rule value) }
 {
     if broken {
-        return refused(number, value);
+        return Err(Refusal::new(rule, value));
     }
-    Checked::Sound
+    Ok(())
 }
 
-pub fn refuse_unless(kept: bool, number: u64, value: usize) -> Checked
-    ensures { result ≡ checked_by (refuse_unless kept number value) }
+pub fn refuse_unless(kept: bool, rule: Rule, value: usize) -> Result<(), Refusal>
+    ensures { result ≡ checked_by (refuse_unless kept rule value) }
 {
     if kept {
-        return Checked::Sound;
+        return Ok(());
     }
-    refused(number, value)
-}
-
-// The first of two checks that refuses.
-pub fn first_of(a: Checked, b: Checked) -> Checked
-    ensures { result ≡ first_refused a b }
-{
-    match a {
-        Checked::Refused(refusal) => Checked::Refused(refusal),
-        Checked::Sound => b,
-    }
+    Err(Refusal::new(rule, value))
 }

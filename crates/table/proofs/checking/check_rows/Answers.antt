@@ -1,41 +1,13 @@
-use Prim.Native.Nat.{◌<◌}
-use native.Mathlib.Omega.{arith}
-use mathlib.Core.Path.{refl, sym, ap, ◌∙◌}
-use Rattle.ground.proofs.Counting.{kept, broken, all_kept}
 use Rattle.rules.specs.Verdict.{row_refusal}
-use Rattle.laws.proofs.Telling.{went_on, stopped}
-use Rattle.laws.specs.Checking.{checked_by}
+use Rattle.laws.proofs.Turns.{turn_kept, turn_broken, turns_over}
 use Rattle.table.proofs.checking.check_rows.Goals as goal
 
-pub overflow_sub-last : goal.overflow_sub-last
-overflow_sub-last c = omega arith
-
-pub loop-row-init : goal.loop-row-init
-loop-row-init c = (omega arith, refl)
-
-pub returns-in-Refused : goal.returns-in-Refused
-returns-in-Refused c =
-    let d = c.before in
-    let l = d.before.before in
-    let rule = row_refusal l.args.table.now in
-    let row_left : l.loop-row.row < l.args.rows = omega (arith, l.requires, d.loop-row-test.true) in
-    sym (ap checked_by (l.loop-row.invariant.1 ∙ broken rule l.loop-row.row l.args.rows row_left (stopped (rule l.loop-row.row) (sym c.in-Refused.is ∙ d.check_row-checked.ensures))))
-
-pub overflow_add-row : goal.overflow_add-row
-overflow_add-row c = omega arith
-
-pub loop-row-smaller : goal.loop-row-smaller
-loop-row-smaller c = omega arith
+pub returns-in_err-check_row : goal.returns-in_err-check_row
+returns-in_err-check_row c =
+    turn_broken (row_refusal c.args.table.now) c.loop-row.invariant c.loop-row-test.true c.from_residual.ensures.1 c.in_err-check_row.ensures
 
 pub loop-row-preserved : goal.loop-row-preserved
-loop-row-preserved c =
-    let d = c.before in
-    let l = d.before.before in
-    let rule = row_refusal l.args.table.now in
-    let row_left : l.loop-row.row < l.args.rows = omega (arith, l.requires, d.loop-row-test.true) in
-    (omega arith, l.loop-row.invariant.1 ∙ kept rule l.loop-row.row l.args.rows row_left (went_on (rule l.loop-row.row) (sym c.in-Sound.is ∙ d.check_row-checked.ensures)))
+loop-row-preserved c = turn_kept (row_refusal c.args.table.now) c.loop-row.invariant c.loop-row-test.true c.in_ok-check_row.ensures
 
 pub returns : goal.returns
-returns c =
-    let s = c.before.before in
-    sym (ap checked_by (c.loop-row.invariant.1 ∙ all_kept (row_refusal s.args.table.now) c.loop-row.row s.args.rows (omega (arith, s.requires, c.loop-row-test.false))))
+returns c = turns_over (row_refusal c.args.table.now) c.loop-row.invariant c.loop-row-test.false

@@ -1,7 +1,9 @@
 -- A kind and its number name each other. Assumes nothing.
 use mathlib.Core.Bool.{Bool, true, false}
 use mathlib.Core.Option.{none, some}
-use mathlib.Core.Path.{◌≡◌, refl}
+use mathlib.Core.Path.{◌≡◌, refl, ap}
+use mir.Syntax.{w32}
+use mir.Val.{of_z}
 use lib.IntN.{ℤ, pos}
 use Rattle.ground.specs.Tests.{eq_z}
 use Rattle.ground.specs.Lists.{find_if}
@@ -36,3 +38,7 @@ no_kind z h = not_found (λ kind. eq_z z (pos (kind_number kind))) kinds (at Box
   where
     at : (k : Kind) → eq_z z (pos (kind_number k)) ≡ false
     at k = eq_z_ne z (pos (kind_number k)) (h k)
+
+-- the bits of a word that names no kind are no kind's number
+pub none_of : (z : ℤ) → ((k : Kind) → of_z w32 z ≡ kind_number k → ⊥) → kind_of z ≡ none
+none_of z f = no_kind z (λ k e. f k (ap (of_z w32) e))
