@@ -11,7 +11,6 @@ ghost use Rattle.laws.specs.Plans.{count, kth};
 ghost use Rattle.choice.specs.Steps.{plan_at, root_plan, slot_of, IsStep, NumberedTo, Numbered, Remembered};
 
 use rules::{Product, Row};
-use table::Leaf;
 
 // What a row is on a side: a primitive's bit, in or out, or two parts, each a row and its side, of which either is chosen, or both.
 #[derive(Clone, Copy)]
@@ -64,13 +63,12 @@ fn number_row(bits: &mut [u64; 127], table: &[i32], row: usize, n: usize) -> usi
     requires n_value { (n ≡ length (primitives_before table.now row)) × NumberedTo table.now bits.old row }
     ensures { (result ≡ length (primitives_before table.now (row + 1))) × NumberedTo table.now bits.new (row + 1) }
 {
-    let leaf = table::primitive_at(table, row);
-    match leaf {
-        Leaf::Solid(_) => {
+    match table::primitive_at(table, row) {
+        Some(_) => {
             bits[row] = 1u64 << n;
             n + 1
         }
-        Leaf::None => n,
+        None => n,
     }
 }
 
@@ -82,10 +80,8 @@ pub fn number_rows(bits: &mut [u64; 127], table: &[i32]) -> usize
 {
     let rows = table::row_count(table);
     let mut n: usize = 0;
-    let mut row: usize = 0;
-    while row < rows {
+    for row in 0..rows {
         n = number_row(bits, table, row, n);
-        row += 1;
     }
     n
 }

@@ -22,10 +22,6 @@ module _ (samples : List ℤ) (place : Place) where
   abbrev pub wrong_length : Bool
   wrong_length = eqb (length samples) 0 || ltb most_samples (length samples)
 
-  pub length_wrong : wrong_length ≡ true → frame_refusal samples place ≡ refuse 12 0
-  unfolding first_of
-  length_wrong h = rw h
-
   module _ (l : wrong_length ≡ false) where
     pub some_sample : 1 ≤ length samples
     some_sample = let p = or_false (eqb (length samples) 0) (ltb most_samples (length samples)) l in omega (arith, eqb-false (length samples) 0 p.0)
@@ -37,17 +33,5 @@ module _ (samples : List ℤ) (place : Place) where
     abbrev pub right_columns : Bool
     right_columns = columns_right place.first (length samples)
 
-    by_ends : right_columns ≡ all_of (λ k. within columns (column place k)) (below (length samples))
+    pub by_ends : right_columns ≡ all_of (λ k. within columns (column place k)) (below (length samples))
     by_ends = ends_are_all columns place.first (length samples) some_sample
-
-    pub columns_wrong : right_columns ≡ false → frame_refusal samples place ≡ refuse 12 1
-    unfolding first_of
-    columns_wrong h = rw (l, ← by_ends, h)
-
-    pub frame_wrong : right_columns ≡ true → within frames place.frame ≡ false → frame_refusal samples place ≡ refuse 12 2
-    unfolding first_of
-    frame_wrong h g = rw (l, ← by_ends, h, g)
-
-    pub frame_fine : right_columns ≡ true → within frames place.frame ≡ true → frame_refusal samples place ≡ none
-    unfolding first_of
-    frame_fine h g = rw (l, ← by_ends, h, g)

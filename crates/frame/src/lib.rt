@@ -11,7 +11,7 @@ ghost use Rattle.rules.specs.TreeCalls.{search_tale};
 ghost use Rattle.laws.specs.Checking.{checked_by};
 ghost use Rattle.frame.specs.Tallies.{columns_right, seen, stepped};
 
-use rules::{Axis, Checked, Place, Point, Searched};
+use rules::{Axis, Hit, Place, Point, Refusal, Rule};
 
 // The first inside sample so far, and how many there are.
 #[derive(Clone, Copy)]
@@ -30,20 +30,13 @@ fn columns_right(first: i32, samples: usize) -> bool
         & (last <= (rules::GREATEST_COLUMN as i64))
 }
 
-pub fn check_frame(samples: &[i16], place: Place) -> Checked
+pub fn check_frame(samples: &[i16], place: Place) -> Result<(), Refusal>
     ensures { result ≡ checked_by (frame_refusal samples.now place) }
 {
     let n = samples.len();
-    if (n == 0) | (rules::MOST_SAMPLES < n) {
-        return table::refused(12, 0);
-    }
-    if !columns_right(place.first, n) {
-        return table::refused(12, 1);
-    }
-    if !window::in_range(Axis::Frame, place.frame) {
-        return table::refused(12, 2);
-    }
-    Checked::Sound
+    table::refuse_if((n == 0) | (rules::MOST_SAMPLES < n), Rule::Frame, 0)?;
+    table::refuse_unless(columns_right(place.first, n), Rule::Frame, 1)?;
+    table::refuse_unless(Axis::Frame.contains(place.frame), Rule::Frame, 2)
 }
 
 // The point of sample k.
@@ -74,19 +67,20 @@ pub fn counted(t: Tally, k: usize, hit: bool) -> Tally
         return Tally { first: k, count: 1 };
     }
     Tally {
-        first: t.first,
         count: t.count + 1,
+        ..t
     }
 }
 
-pub fn answer(t: Tally) -> Searched
-    ensures { told_searched result ≡ fine (search_tale (seen t) t.count) }
+// The first inside sample and how many there are, if there is one.
+pub fn answer(t: Tally) -> Option<Hit>
+    ensures { told_searched (Ok result) ≡ fine (search_tale (seen t) t.count) }
 {
     if t.count == 0 {
-        return Searched::Clear;
+        return None;
     }
-    Searched::Hit {
+    Some(Hit {
         first: t.first,
         count: t.count,
-    }
+    })
 }

@@ -2,11 +2,11 @@
 use Rattle.std.specs.Prelude.{Result, Ok, Err, IsErrAnd}
 use Rattle.std.proofs.lemmas.Result.{err_from_is_err_and}
 use Prim.Native.Nat.{ℕ, ◌+◌, ◌≤◌, ◌<◌}
-use mathlib.Core.List.{List, [], ◌∷◌}
+use mathlib.Core.List.{List, [], ◌∷◌, ◌++◌}
 use mathlib.Core.Option.{Option, none, some}
 use mathlib.Core.Path.{◌≡◌, sym, ap, ◌∙◌}
 use Rattle.ground.specs.Lists.{first_of, rulings}
-use Rattle.ground.proofs.Counting.{kept, broken, all_kept}
+use Rattle.ground.proofs.Counting.{kept, broken, all_kept, first_append}
 use Rattle.rules.specs.declared.Refusal.{Refusal}
 use Rattle.rules.specs.Told.{Checked}
 use Rattle.laws.specs.Checking.{checked_by}
@@ -36,3 +36,11 @@ module _ (x : Option Refusal) (xs : List (Option Refusal)) where
   pub first_kept_on : {u : Unit {0}} → Ok u ≡ checked_by x → {r : Checked} → r ≡ checked_by (first_of xs) → r ≡ checked_by (first_of (x ∷ xs))
   unfolding first_of
   first_kept_on h e = rw (went_on x h) e
+
+-- the rules of one list after those of another
+module _ (xs ys : List (Option Refusal)) where
+  pub part_broken : {r : Checked} {e : Refusal} → IsErrAnd r (λ d. d ≡ e) → Err e ≡ checked_by (first_of xs) → r ≡ checked_by (first_of (xs ++ ys))
+  part_broken at h = handed_on at ∙ h ∙ rw (first_append xs ys, stopped (first_of xs) h)
+
+  pub part_kept : {u : Unit {0}} → Ok u ≡ checked_by (first_of xs) → {r : Checked} → r ≡ checked_by (first_of ys) → r ≡ checked_by (first_of (xs ++ ys))
+  part_kept h e = rw (first_append xs ys, went_on (first_of xs) h) e

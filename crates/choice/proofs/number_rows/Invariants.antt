@@ -6,7 +6,4 @@ use Rattle.choice.specs.Steps.{NumberedTo}
 use Rattle.choice.proofs.number_rows.Given as goal
 
 abbrev pub invariant-loop-row : goal.invariant-loop-row
-invariant-loop-row l = (l.row ≤ l.rows) × ((l.n ≡ length (primitives_before l.table l.row)) × NumberedTo l.table l.bits l.row)
-
-abbrev pub decreases-loop-row : goal.decreases-loop-row
-decreases-loop-row l = l.rows - l.row
+invariant-loop-row l = (l.n ≡ length (primitives_before l.table l.row)) × NumberedTo l.table l.bits l.row

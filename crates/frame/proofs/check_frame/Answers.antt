@@ -1,65 +1,47 @@
-use mathlib.Core.Path.{◌≡◌, sym, ap, ◌∙◌}
-use borrow.Author.Rules.{rules}
+use mathlib.Core.Path.{◌≡◌, ◌∙◌}
+use mathlib.Core.Bool.{Bool, false}
+use mathlib.Core.List.{List}
 use lib.IntN.{ℤ}
-use lib.ListN.{length}
 use mir.Syntax.{w32}
-use mir.Val.{SFits}
+use mir.Val.{SFits, to_z, of_z}
 use mir.ValLaws.{to_z-of_z}
-use Rattle.rules.specs.Ranges.{within, frames}
+use lib.ListN.{length}
+use Rattle.std.proofs.Common.{rules}
+use Rattle.ground.specs.Lists.{all_of, below}
+use Rattle.rules.specs.declared.Place.{Place}
+use Rattle.rules.specs.declared.Rule.TheVariants as rule
+use Rattle.rules.specs.Frame.{column}
+use Rattle.rules.specs.Ranges.{within, columns, frames}
+use Rattle.rules.specs.Refusals.{refuse_unless}
+use Rattle.rules.specs.Told.{Checked}
+use Rattle.laws.proofs.Soundness.{if_kept}
+use Rattle.laws.proofs.Telling.{alone, went_on}
+use Rattle.laws.proofs.Turns.{first_broken, first_kept_on}
 use Rattle.laws.specs.Checking.{checked_by}
-use Rattle.frame.proofs.Frames.{length_wrong, some_sample, not_over, columns_wrong, frame_wrong, frame_fine}
 use Rattle.frame.specs.Tallies.{columns_right}
-use Rattle.frame.proofs.check_frame.Lts as lts
-use Rattle.frame.proofs.check_frame.Tie as tie
-use Rattle.frame.proofs.check_frame.Reads as reads
+use Rattle.frame.proofs.Frames.{wrong_length, by_ends}
 use Rattle.frame.proofs.check_frame.Goals as goal
 
-abbrev After-columns_right : Type 0
-After-columns_right = lts.After-columns_right tie.the-claims reads.Pre reads.Post
+-- the columns were tested by their two ends, of the first as it is read back
+all_columns : (samples : List ℤ) (place : Place) → SFits w32 place.first → wrong_length samples place ≡ false
+    → {t : Bool} → t ≡ columns_right (to_z w32 (of_z w32 place.first)) (length samples) → {r : Checked} → r ≡ checked_by (refuse_unless t rule.Frame 1)
+    → r ≡ checked_by (refuse_unless (all_of (λ k. within columns (column place k)) (below (length samples))) rule.Frame 1)
+all_columns samples place f l h told = told ∙ rw (h, to_z-of_z w32 place.first f, by_ends samples place l)
 
-abbrev After-in_range : Type 0
-After-in_range = lts.After-in_range tie.the-claims reads.Pre reads.Post
+pub returns-in_err-refuse_if : goal.returns-in_err-refuse_if
+returns-in_err-refuse_if c = first_broken _ _ c.from_residual.ensures.1 c.in_err-refuse_if.ensures
 
--- what the tests of the columns and of the frame number came to
-columns_told : (c : After-columns_right) → c.columns_right.result ≡ columns_right c.args.place.first (length c.args.samples.now)
-columns_told c =
-    let s = c.before.before.before in
-    let f : SFits w32 s.args.place.first = search rules in
-    c.columns_right.ensures ∙ ap (λ (z : ℤ). columns_right z (length s.args.samples.now)) (to_z-of_z w32 s.args.place.first f)
-
-frame_told : (c : After-in_range) →
-    let at_columns_right = c.before.before.before in
-    let s = at_columns_right.before.before.before in
-    c.in_range.result ≡ within frames s.args.place.frame
-frame_told c =
-    let at_columns_right = c.before.before.before in
-    let s = at_columns_right.before.before.before in
-    let f : SFits w32 s.args.place.frame = search rules in
-    c.in_range.ensures ∙ ap (within frames) (to_z-of_z w32 s.args.place.frame f)
-
-pub returns-then-n : goal.returns-then-n
-returns-then-n c = let s = c.before.before in c.refused.ensures ∙ ap checked_by (sym (length_wrong s.args.samples.now s.args.place c.if-n.true))
-
-pub columns_right-requires : goal.columns_right-requires
-columns_right-requires c = let s = c.before.before.before in (some_sample s.args.samples.now s.args.place c.if-n.false, not_over s.args.samples.now s.args.place c.if-n.false)
-
-pub returns-then-not-columns_right : goal.returns-then-not-columns_right
-returns-then-not-columns_right c =
-    let d = c.before.before in
-    let s = d.before.before.before in
-    c.refused-then-not-columns_right.ensures ∙ ap checked_by (sym (columns_wrong s.args.samples.now s.args.place d.if-n.false (sym (columns_told d) ∙ c.if-not-columns_right.true)))
-
-pub returns-then-not-in_range : goal.returns-then-not-in_range
-returns-then-not-in_range c =
-    let e = c.before.before in
-    let d = e.before.before.before in
-    let s = d.before.before.before in
-    c.refused-then-not-in_range.ensures
-    ∙ ap checked_by (sym (frame_wrong s.args.samples.now s.args.place d.if-n.false (sym (columns_told d) ∙ e.if-not-columns_right.false) (sym (frame_told e) ∙ c.if-not-in_range.true)))
+pub returns-in_err-refuse_unless : goal.returns-in_err-refuse_unless
+returns-in_err-refuse_unless c =
+    let l = if_kept _ _ _ (went_on _ c.in_ok-refuse_if.ensures) in
+    first_kept_on _ _ c.in_ok-refuse_if.ensures
+    (first_broken _ _ c.from_residual-in_err-refuse_unless.ensures.1
+    (all_columns c.args.samples.now c.args.place (search rules) l c.columns_right.ensures c.in_err-refuse_unless.ensures))
 
 pub returns : goal.returns
 returns c =
-    let e = c.before in
-    let d = e.before.before.before in
-    let s = d.before.before.before in
-    ap checked_by (sym (frame_fine s.args.samples.now s.args.place d.if-n.false (sym (columns_told d) ∙ e.if-not-columns_right.false) (sym (frame_told e) ∙ c.if-not-in_range.false)))
+    let l = if_kept _ _ _ (went_on _ c.in_ok-refuse_if.ensures) in
+    let f : SFits w32 c.args.place.frame = search rules in
+    first_kept_on _ _ c.in_ok-refuse_if.ensures
+    (first_kept_on _ _ (all_columns c.args.samples.now c.args.place (search rules) l c.columns_right.ensures c.in_ok-refuse_unless.ensures)
+    (alone _ (c.refuse_unless-2.ensures ∙ rw (c.contains.ensures, to_z-of_z w32 c.args.place.frame f))))
