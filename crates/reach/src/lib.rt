@@ -15,7 +15,6 @@ ghost use Rattle.laws.specs.Reach.{sharing};
 ghost use Rattle.reach.specs.Gathering.{apart, with_one, Gathers, meeting};
 
 use rules::{BoxShape, Window};
-use table::Leaf;
 
 // The primitives that have passed: those of which a test holds, and how many there were.
 #[derive(Clone, Copy)]
@@ -28,8 +27,8 @@ pub struct Gathered {
 fn spans_part(alo: i32, ahi: i32, blo: i32, bhi: i32) -> bool
     ensures { result ≡ apart (record { lo = alo; hi = ahi }) (record { lo = blo; hi = bhi }) }
 {
-    let lo = if alo <= blo { blo } else { alo };
-    let hi = if ahi <= bhi { ahi } else { bhi };
+    let lo = alo.max(blo);
+    let hi = ahi.min(bhi);
     hi < lo
 }
 
@@ -60,10 +59,9 @@ fn gather(table: &[i32], row: usize, b: BoxShape, g: Gathered) -> Gathered
     requires gathers { Gathers (primitives_before table.now row) (meeting (bounds b)) g }
     ensures { Gathers (primitives_before table.now (row + 1)) (meeting (bounds b)) result }
 {
-    let leaf = table::primitive_at(table, row);
-    match leaf {
-        Leaf::Solid(s) => added(g, boxes_share(solid::box_of(s), b)),
-        Leaf::None => g,
+    match table::primitive_at(table, row) {
+        Some(s) => added(g, boxes_share(solid::box_of(s), b)),
+        None => g,
     }
 }
 
@@ -74,10 +72,8 @@ pub fn sharing_with(table: &[i32], b: BoxShape) -> u64
 {
     let rows = table::row_count(table);
     let mut g = Gathered { set: 0, count: 0 };
-    let mut row: usize = 0;
-    while row < rows {
+    for row in 0..rows {
         g = gather(table, row, b, g);
-        row += 1;
     }
     g.set
 }
@@ -87,15 +83,7 @@ pub fn seen_in(table: &[i32], w: Window) -> u64
     requires { Sound table.now }
     ensures { result ≡ sharing (primitives table.now) (window_box w) }
 {
-    let b = BoxShape {
-        xlo: w.xlo,
-        xhi: w.xhi,
-        ylo: w.ylo,
-        yhi: w.yhi,
-        zlo: w.zlo,
-        zhi: w.zhi,
-    };
-    sharing_with(table, b)
+    sharing_with(table, BoxShape::from(w))
 }
 
 // The primitives whose boxes share a point with that of a row's primitive.
@@ -104,9 +92,8 @@ pub fn sharing_row(table: &[i32], row: usize) -> u64
     requires row_bound { row < row_count table.now }
     ensures { (s : Primitive) → row_at table.now row ≡ some (Solid s) → result ≡ sharing (primitives table.now) (box_of s) }
 {
-    let leaf = table::primitive_at(table, row);
-    match leaf {
-        Leaf::Solid(s) => sharing_with(table, solid::box_of(s)),
-        Leaf::None => 0,
+    match table::primitive_at(table, row) {
+        Some(s) => sharing_with(table, solid::box_of(s)),
+        None => 0,
     }
 }

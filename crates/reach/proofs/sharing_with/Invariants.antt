@@ -5,7 +5,4 @@ use Rattle.reach.specs.Gathering.{Gathers, meeting}
 use Rattle.reach.proofs.sharing_with.Given as goal
 
 abbrev pub invariant-loop-row : goal.invariant-loop-row
-invariant-loop-row l = (l.row ≤ l.rows) × Gathers (primitives_before l.table l.row) (meeting (bounds l.b)) l.g
-
-abbrev pub decreases-loop-row : goal.decreases-loop-row
-decreases-loop-row l = l.rows - l.row
+invariant-loop-row l = Gathers (primitives_before l.table l.row) (meeting (bounds l.b)) l.g
