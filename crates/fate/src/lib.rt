@@ -31,12 +31,12 @@ fn cut_box(a: BoxShape, b: BoxShape) -> BoxShape
     ensures { bounds result ≡ common_box (bounds a) (bounds b) }
 {
     BoxShape {
-        xlo: solid::greater(a.xlo, b.xlo),
-        xhi: solid::lesser(a.xhi, b.xhi),
-        ylo: solid::greater(a.ylo, b.ylo),
-        yhi: solid::lesser(a.yhi, b.yhi),
-        zlo: solid::greater(a.zlo, b.zlo),
-        zhi: solid::lesser(a.zhi, b.zhi),
+        xlo: a.xlo.max(b.xlo),
+        xhi: a.xhi.min(b.xhi),
+        ylo: a.ylo.max(b.ylo),
+        yhi: a.yhi.min(b.yhi),
+        zlo: a.zlo.max(b.zlo),
+        zhi: a.zhi.min(b.zhi),
     }
 }
 

@@ -14,56 +14,96 @@ ghost use Rattle.laws.specs.Sound.{solid_right};
 
 use rules::{BoxShape, Corner, DrumShape, Point, Primitive, TriangleShape, WedgeShape};
 
-pub fn lesser(a: i32, b: i32) -> i32
-    ensures { result ≡ lesser a b }
-{
-    if a <= b { a } else { b }
+// The whole numbers lo..=hi.
+#[derive(Clone, Copy, PartialEq, Eq, Debug)]
+pub struct Range {
+    pub lo: i32,
+    pub hi: i32,
 }
 
-pub fn greater(a: i32, b: i32) -> i32
-    ensures { result ≡ greater a b }
+impl Range {
+    // From the least of three numbers to the greatest.
+    fn around(a: i32, b: i32, c: i32) -> Range
+        ensures least { result.lo ≡ (around a b c).lo }
+        ensures most { result.hi ≡ (around a b c).hi }
+    {
+        Range {
+            lo: a.min(b).min(c),
+            hi: a.max(b).max(c),
+        }
+    }
+
+    pub fn contains(self, v: i32) -> bool
+        ensures { result ≡ within (record { lo = self.lo; hi = self.hi }) v }
+    {
+        (self.lo <= v) & (v <= self.hi)
+    }
+}
+
+// The columns of a box, its codes, its frames.
+pub fn columns(b: BoxShape) -> Range
+    ensures { result ≡ record { lo = b.xlo; hi = b.xhi } }
 {
-    if a <= b { b } else { a }
+    Range {
+        lo: b.xlo,
+        hi: b.xhi,
+    }
+}
+
+pub fn codes(b: BoxShape) -> Range
+    ensures { result ≡ record { lo = b.ylo; hi = b.yhi } }
+{
+    Range {
+        lo: b.ylo,
+        hi: b.yhi,
+    }
+}
+
+pub fn frames(b: BoxShape) -> Range
+    ensures { result ≡ record { lo = b.zlo; hi = b.zhi } }
+{
+    Range {
+        lo: b.zlo,
+        hi: b.zhi,
+    }
 }
 
 pub fn in_box(b: BoxShape, p: Point) -> bool
     ensures { result ≡ holds (bounds b) p }
 {
-    ((b.xlo <= p.x) & (p.x <= b.xhi))
-        & (((b.ylo <= p.y) & (p.y <= b.yhi)) & ((b.zlo <= p.z) & (p.z <= b.zhi)))
+    columns(b).contains(p.x) & (codes(b).contains(p.y) & frames(b).contains(p.z))
 }
 
 // ax + by + cz <= d
-fn half_space(a: i32, b: i32, c: i32, d: i32, x: i32, y: i32, z: i32) -> bool
-    requires a_value { (within slopes a ≡ true) × ((within slopes b ≡ true) × (within slopes c ≡ true)) }
-    requires x_value { (within columns x ≡ true) × ((within codes y ≡ true) × (within frames z ≡ true)) }
-    ensures { result ≡ half_space a b c d x y z }
+fn half_space(w: WedgeShape, p: Point) -> bool
+    requires w_value { wedge_right w ≡ true }
+    requires p_value { holds everywhere p ≡ true }
+    ensures { result ≡ half_space w.a w.b w.c w.d p.x p.y p.z }
 {
-    (a as i64) * (x as i64) + (b as i64) * (y as i64) + (c as i64) * (z as i64) <= (d as i64)
+    (w.a as i64) * (p.x as i64) + (w.b as i64) * (p.y as i64) + (w.c as i64) * (p.z as i64)
+        <= (w.d as i64)
 }
 
 // ry²(x - cx)² + rx²(y - cy)² - rx²ry²: above 0 out of the ellipse.
-pub fn past_ellipse(cx: i32, cy: i32, rx: i32, ry: i32, x: i32, y: i32) -> i64
-    requires cx_value { (within columns cx ≡ true) × (within codes cy ≡ true) }
-    requires rx_value { (within radii rx ≡ true) × (within radii ry ≡ true) }
-    requires x_value { (within columns x ≡ true) × (within codes y ≡ true) }
-    ensures value { result ≡ square ry *ℤ square (x -ℤ cx) +ℤ square rx *ℤ square (y -ℤ cy) -ℤ square rx *ℤ square ry }
+pub fn past_ellipse(d: DrumShape, p: Point) -> i64
+    requires d_value { drum_right d ≡ true }
+    requires p_value { holds everywhere p ≡ true }
+    ensures value { result ≡ square d.ry *ℤ square (p.x -ℤ d.cx) +ℤ square d.rx *ℤ square (p.y -ℤ d.cy) -ℤ square d.rx *ℤ square d.ry }
     ensures bounded { nat_abs result ≤ 1000000000000000000 }
 {
-    let dx = (x as i64) - (cx as i64);
-    let dy = (y as i64) - (cy as i64);
-    let u = (rx as i64) * (rx as i64);
-    let v = (ry as i64) * (ry as i64);
+    let dx = (p.x as i64) - (d.cx as i64);
+    let dy = (p.y as i64) - (d.cy as i64);
+    let u = (d.rx as i64) * (d.rx as i64);
+    let v = (d.ry as i64) * (d.ry as i64);
     v * (dx * dx) + u * (dy * dy) - u * v
 }
 
-pub fn in_ellipse(cx: i32, cy: i32, rx: i32, ry: i32, x: i32, y: i32) -> bool
-    requires cx_value { (within columns cx ≡ true) × (within codes cy ≡ true) }
-    requires rx_value { (within radii rx ≡ true) × (within radii ry ≡ true) }
-    requires x_value { (within columns x ≡ true) × (within codes y ≡ true) }
-    ensures { result ≡ in_ellipse cx cy rx ry x y }
+pub fn in_ellipse(d: DrumShape, p: Point) -> bool
+    requires d_value { drum_right d ≡ true }
+    requires p_value { holds everywhere p ≡ true }
+    ensures { result ≡ in_ellipse d.cx d.cy d.rx d.ry p.x p.y }
 {
-    past_ellipse(cx, cy, rx, ry, x, y) <= 0
+    past_ellipse(d, p) <= 0
 }
 
 fn in_wedge(w: WedgeShape, p: Point) -> bool
@@ -71,11 +111,7 @@ fn in_wedge(w: WedgeShape, p: Point) -> bool
     requires p_value { holds everywhere p ≡ true }
     ensures { result ≡ inside_wedge w p }
 {
-    let bounds = w.bounds;
-    if !in_box(bounds, p) {
-        return false;
-    }
-    half_space(w.a, w.b, w.c, w.d, p.x, p.y, p.z)
+    in_box(w.bounds, p) && half_space(w, p)
 }
 
 fn in_drum(d: DrumShape, p: Point) -> bool
@@ -83,14 +119,14 @@ fn in_drum(d: DrumShape, p: Point) -> bool
     requires p_value { holds everywhere p ≡ true }
     ensures { result ≡ inside_drum d p }
 {
-    let framed = (d.zlo <= p.z) & (p.z <= d.zhi);
-    if !framed {
-        return false;
-    }
-    in_ellipse(d.cx, d.cy, d.rx, d.ry, p.x, p.y)
+    let frames = Range {
+        lo: d.zlo,
+        hi: d.zhi,
+    };
+    frames.contains(p.z) && in_ellipse(d, p)
 }
 
-// (ax - x)(by - y) - (bx - x)(ay - y): the side of the edge from a to b that a point is on.
+// (ax - x)(by - y) - (bx - x)(ay - y): the side of the edge from a to b that a point is on. The point may be a `Point`'s or a `Corner`'s.
 pub fn side(a: Corner, b: Corner, x: i32, y: i32) -> i64
     requires a_value { (corner_right a ≡ true) × (corner_right b ≡ true) }
     requires x_value { (within columns x ≡ true) × (within codes y ≡ true) }
@@ -107,15 +143,19 @@ fn one_sided(u: i64, v: i64, w: i64) -> bool
 }
 
 // On no edge's wrong side.
-pub fn in_corners(t: TriangleShape, x: i32, y: i32) -> bool
+pub fn in_corners(t: TriangleShape, p: Point) -> bool
     requires t_value { corners_right t ≡ true }
-    requires x_value { (within columns x ≡ true) × (within codes y ≡ true) }
-    ensures { result ≡ one_sided (side t.first t.second x y) (side t.second t.third x y) (side t.third t.first x y) }
+    requires p_value { holds everywhere p ≡ true }
+    ensures { result ≡ one_sided (side t.first t.second p.x p.y) (side t.second t.third p.x p.y) (side t.third t.first p.x p.y) }
 {
     let a = t.first;
     let b = t.second;
     let c = t.third;
-    one_sided(side(a, b, x, y), side(b, c, x, y), side(c, a, x, y))
+    one_sided(
+        side(a, b, p.x, p.y),
+        side(b, c, p.x, p.y),
+        side(c, a, p.x, p.y),
+    )
 }
 
 fn in_triangle(t: TriangleShape, p: Point) -> bool
@@ -123,11 +163,11 @@ fn in_triangle(t: TriangleShape, p: Point) -> bool
     requires p_value { holds everywhere p ≡ true }
     ensures { result ≡ inside_triangle t p }
 {
-    let framed = (t.zlo <= p.z) & (p.z <= t.zhi);
-    if !framed {
-        return false;
-    }
-    in_corners(t, p.x, p.y)
+    let frames = Range {
+        lo: t.zlo,
+        hi: t.zhi,
+    };
+    frames.contains(p.z) && in_corners(t, p)
 }
 
 pub fn in_solid(s: Primitive, p: Point) -> bool
@@ -143,29 +183,19 @@ pub fn in_solid(s: Primitive, p: Point) -> bool
     }
 }
 
-fn least(a: i32, b: i32, c: i32) -> i32
-    ensures { result ≡ (around a b c).lo }
-{
-    lesser(lesser(a, b), c)
-}
-
-fn most(a: i32, b: i32, c: i32) -> i32
-    ensures { result ≡ (around a b c).hi }
-{
-    greater(greater(a, b), c)
-}
-
 fn triangle_box(t: TriangleShape) -> BoxShape
     ensures { bounds result ≡ box_of (primitive.Triangle t) }
 {
     let a = t.first;
     let b = t.second;
     let c = t.third;
+    let columns = Range::around(a.x, b.x, c.x);
+    let codes = Range::around(a.y, b.y, c.y);
     BoxShape {
-        xlo: least(a.x, b.x, c.x),
-        xhi: most(a.x, b.x, c.x),
-        ylo: least(a.y, b.y, c.y),
-        yhi: most(a.y, b.y, c.y),
+        xlo: columns.lo,
+        xhi: columns.hi,
+        ylo: codes.lo,
+        yhi: codes.hi,
         zlo: t.zlo,
         zhi: t.zhi,
     }
