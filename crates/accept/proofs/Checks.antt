@@ -14,10 +14,12 @@ use lib.Pow.{pow_mono}
 use Rattle.ground.specs.Lists.{first_of}
 use Rattle.ground.proofs.Masks.{one_shifted}
 use Rattle.ground.proofs.Order.{leb_same}
-use Rattle.rules.specs.declared.Checked.{Checked}
 use Rattle.rules.specs.declared.Axis.TheVariants.{Column, Code, Frame}
 use Rattle.rules.specs.declared.Product.{Product}
 use Rattle.rules.specs.declared.Refusal.{Refusal}
+use Rattle.rules.specs.declared.Rule.{Rule}
+use Rattle.rules.specs.declared.Rule.TheVariants as rule
+use Rattle.rules.specs.Told.{Checked}
 use Rattle.rules.specs.ListFaults.{bounds_refusals, count_right, fits, plain_right, cuts_right, primitives_right, product_refusals, header_refusals}
 use Rattle.rules.specs.ListWords.{primitives_word, header_words, product_count, primitive_count, place_of, product_at}
 use Rattle.rules.specs.Refusals.{refuse_if, refuse_unless}
@@ -26,9 +28,9 @@ use Rattle.laws.proofs.Telling.{in_turn, alone, one_two}
 
 -- ---- tests
 
-pub if_not : (b : Bool) (number value : ℕ) → refuse_if (not b) number value ≡ refuse_unless b number value
-if_not true number value = refl
-if_not false number value = refl
+pub if_not : (b : Bool) (r : Rule) (value : ℕ) → refuse_if (not b) r value ≡ refuse_unless b r value
+if_not true r value = refl
+if_not false r value = refl
 
 not_and : (a b : Bool) → (not a || not b) ≡ not (a && b)
 not_and true b = refl
@@ -42,51 +44,25 @@ more_than a b = go (leb b a) refl
     go false e = lt-ltb a b (omega (arith, leb-false b a e))
 
 -- one of two tests fails
-pub either_fails : (a b : Bool) (number value : ℕ) → refuse_if (not a || not b) number value ≡ refuse_unless (a && b) number value
-either_fails a b number value = ap (λ (t : Bool). refuse_if t number value) (not_and a b) ∙ if_not (a && b) number value
+pub either_fails : (a b : Bool) (r : Rule) (value : ℕ) → refuse_if (not a || not b) r value ≡ refuse_unless (a && b) r value
+either_fails a b r value = ap (λ (t : Bool). refuse_if t r value) (not_and a b) ∙ if_not (a && b) r value
 
 -- ---- the header
 
 module _ (list : List ℕ) where
   pub count_by : header_words ≤ length list
-      → checked_by (refuse_if (ltb 65536 (product_count list) || ltb ((length list - 8) / 2) (product_count list)) 9 0)
-      ≡ checked_by (refuse_unless (count_right list) 9 0)
+      → checked_by (refuse_if (ltb 65536 (product_count list) || ltb ((length list - 8) / 2) (product_count list)) rule.List 0)
+      ≡ checked_by (refuse_unless (count_right list) rule.List 0)
   count_by long =
       let n = product_count list in
       let room : ltb ((length list - 8) / 2) n ≡ not (leb (place_of n) (length list))
       = more_than ((length list - 8) / 2) n ∙ ap not (leb_same n ((length list - 8) / 2) (place_of n) (length list) (λ h. omega arith) (λ h. omega arith)) in
-      ap checked_by (ap₂ (λ (a b : Bool). refuse_if (a || b) 9 0) (more_than 65536 n) room ∙ either_fails (leb n 65536) (leb (place_of n) (length list)) 9 0)
+      ap checked_by (ap₂ (λ (a b : Bool). refuse_if (a || b) rule.List 0) (more_than 65536 n) room ∙ either_fails (leb n 65536) (leb (place_of n) (length list)) rule.List 0)
 
-  pub primitives_by : checked_by (refuse_if (ltb (primitive_count list) 1 || ltb 64 (primitive_count list)) 9 primitives_word) ≡ checked_by (refuse_unless (primitives_right list) 9 primitives_word)
+  pub primitives_by : checked_by (refuse_if (ltb (primitive_count list) 1 || ltb 64 (primitive_count list)) rule.List primitives_word) ≡ checked_by (refuse_unless (primitives_right list) rule.List primitives_word)
   primitives_by =
       let n = primitive_count list in
-      ap checked_by (ap₂ (λ (a b : Bool). refuse_if (a || b) 9 primitives_word) (more_than n 1) (more_than 64 n) ∙ either_fails (leb 1 n) (leb n 64) 9 primitives_word)
-
-  -- words 0 to 7 in turn
-  pub header_by : {frames primitives late codes later columns latest count all : Checked}
-      → frames ≡ checked_by (first_of (bounds_refusals list Frame)) → primitives ≡ checked_by (refuse_unless (primitives_right list) 9 primitives_word) → late ≡ first_refused frames primitives
-      → codes ≡ checked_by (first_of (bounds_refusals list Code)) → later ≡ first_refused codes late
-      → columns ≡ checked_by (first_of (bounds_refusals list Column)) → latest ≡ first_refused columns later
-      → count ≡ checked_by (refuse_unless (count_right list) 9 0) → all ≡ first_refused count latest
-      → all ≡ checked_by (first_of (header_refusals list))
-  header_by frames primitives late codes later columns latest count all =
-      in_turn (counts ∷ []) (x ++ (y ++ (z ++ (last ∷ [])))) (alone counts count)
-      (in_turn x (y ++ (z ++ (last ∷ []))) columns (in_turn y (z ++ (last ∷ [])) codes (in_turn z (last ∷ []) frames (alone last primitives) late) later) latest) all
-    where
-      counts : Option Refusal
-      counts = refuse_unless (count_right list) 9 0
-
-      x : List (Option Refusal)
-      x = bounds_refusals list Column
-
-      y : List (Option Refusal)
-      y = bounds_refusals list Code
-
-      z : List (Option Refusal)
-      z = bounds_refusals list Frame
-
-      last : Option Refusal
-      last = refuse_unless (primitives_right list) 9 primitives_word
+      ap checked_by (ap₂ (λ (a b : Bool). refuse_if (a || b) rule.List primitives_word) (more_than n 1) (more_than 64 n) ∙ either_fails (leb 1 n) (leb n 64) rule.List primitives_word)
 
 -- ---- products
 
@@ -115,28 +91,23 @@ half_of n at_least_lem few = (omega (arith, is, low), omega (arith, is, high), r
 fits_by : (n all set : ℕ) → suc all ≡ 2 ^ n → ltb all set ≡ not (fits n set)
 fits_by n all set e = more_than all set ∙ ap not (sym (leb-suc-suc set all) ∙ ap (leb (suc set)) e)
 
--- the two words of product k
-pub product_by : (list : List ℕ) (k all : ℕ) → suc all ≡ 2 ^ primitive_count list → {c : Product} {plain cuts r : Checked} → c ≡ product_at list k
-    → plain ≡ checked_by (refuse_if (eqb c.plain 0 || ltb all c.plain) 9 (place_of k))
-    → cuts ≡ checked_by (refuse_if (ltb all c.cuts || not (eqb (bit_and c.plain c.cuts) 0)) 9 (place_of k + 1))
-    → r ≡ first_refused plain cuts → r ≡ checked_by (first_of (product_refusals list k))
-product_by list k all e {c} is plain cuts r =
-    one_two (refuse_unless (plain_right n d) 9 (place_of k)) (refuse_unless (cuts_right n d) 9 (place_of k + 1)) (plain ∙ ap checked_by first) (cuts ∙ ap checked_by second) r
-  where
-    n : ℕ
-    n = primitive_count list
+-- the two words of product k, as the code tests them
+module _ (list : List ℕ) (k all : ℕ) (e : suc all ≡ 2 ^ primitive_count list) {c : Product} (is : c ≡ product_at list k) where
+  abbrev n : ℕ
+  n = primitive_count list
 
-    d : Product
-    d = product_at list k
+  abbrev d : Product
+  d = product_at list k
 
-    first : refuse_if (eqb c.plain 0 || ltb all c.plain) 9 (place_of k) ≡ refuse_unless (plain_right n d) 9 (place_of k)
-    first =
-        ap (λ (x : Product). refuse_if (eqb x.plain 0 || ltb all x.plain) 9 (place_of k)) is
-        ∙ ap₂ (λ (a b : Bool). refuse_if (a || b) 9 (place_of k)) (sym (not-not (eqb d.plain 0))) (fits_by n all d.plain e)
-        ∙ either_fails (not (eqb d.plain 0)) (fits n d.plain) 9 (place_of k)
+  pub plain_by : checked_by (refuse_if (eqb c.plain 0 || ltb all c.plain) rule.List (place_of k)) ≡ checked_by (refuse_unless (plain_right n d) rule.List (place_of k))
+  plain_by =
+      ap checked_by (ap (λ (x : Product). refuse_if (eqb x.plain 0 || ltb all x.plain) rule.List (place_of k)) is
+      ∙ ap₂ (λ (a b : Bool). refuse_if (a || b) rule.List (place_of k)) (sym (not-not (eqb d.plain 0))) (fits_by n all d.plain e)
+      ∙ either_fails (not (eqb d.plain 0)) (fits n d.plain) rule.List (place_of k))
 
-    second : refuse_if (ltb all c.cuts || not (eqb (bit_and c.plain c.cuts) 0)) 9 (place_of k + 1) ≡ refuse_unless (cuts_right n d) 9 (place_of k + 1)
-    second =
-        ap (λ (x : Product). refuse_if (ltb all x.cuts || not (eqb (bit_and x.plain x.cuts) 0)) 9 (place_of k + 1)) is
-        ∙ ap (λ (a : Bool). refuse_if (a || not (eqb (bit_and d.plain d.cuts) 0)) 9 (place_of k + 1)) (fits_by n all d.cuts e)
-        ∙ either_fails (fits n d.cuts) (eqb (bit_and d.plain d.cuts) 0) 9 (place_of k + 1)
+  pub cuts_by : checked_by (refuse_if (ltb all c.cuts || not (eqb (bit_and c.plain c.cuts) 0)) rule.List (place_of k + 1))
+      ≡ checked_by (refuse_unless (cuts_right n d) rule.List (place_of k + 1))
+  cuts_by =
+      ap checked_by (ap (λ (x : Product). refuse_if (ltb all x.cuts || not (eqb (bit_and x.plain x.cuts) 0)) rule.List (place_of k + 1)) is
+      ∙ ap (λ (a : Bool). refuse_if (a || not (eqb (bit_and d.plain d.cuts) 0)) rule.List (place_of k + 1)) (fits_by n all d.cuts e)
+      ∙ either_fails (fits n d.cuts) (eqb (bit_and d.plain d.cuts) 0) rule.List (place_of k + 1))

@@ -1,4 +1,5 @@
 -- What the calls over a list answer, from the rules that were kept or broken on the way. Assumes nothing.
+use Rattle.std.specs.Prelude.{Ok, Err}
 use Prim.Native.Nat.{ℕ}
 use mathlib.Core.Bool.{Bool, true, false}
 use mathlib.Core.List.{List, [], ◌∷◌}
@@ -7,19 +8,15 @@ use mathlib.Core.Path.{◌≡◌, sym, ap, ◌∙◌}
 use lib.IntN.{ℤ}
 use lib.ListN.{length}
 use Rattle.ground.specs.Lists.{first_of}
-use Rattle.rules.specs.declared.Located.{Located}
-use Rattle.rules.specs.declared.Located.TheVariants as located
 use Rattle.rules.specs.declared.Place.{Place}
 use Rattle.rules.specs.declared.Point.{Point}
 use Rattle.rules.specs.declared.Refusal.{Refusal}
-use Rattle.rules.specs.declared.Searched.{Searched}
-use Rattle.rules.specs.declared.Searched.TheVariants as searched
 use Rattle.rules.specs.Frame.{frame_refusal, leaves_refusal, sample_inside, first_inside, inside_count}
 use Rattle.rules.specs.ListCalls.{accept_refusal, ListLocated, ListSearched}
 use Rattle.rules.specs.ListInside.{inside_list}
 use Rattle.rules.specs.ListWords.{list_window}
 use Rattle.rules.specs.Table.{primitives}
-use Rattle.rules.specs.Told.{Tale, Told, fine, refused, tell, told_located, told_searched}
+use Rattle.rules.specs.Told.{Located, Searched, Tale, Told, fine, refused, tell, told_located, told_searched}
 use Rattle.rules.specs.TreeCalls.{point_refusal, point_tale, search_tale}
 use Rattle.laws.proofs.Telling.{told_now, told_later, told_fine}
 use Rattle.frame.specs.declared.Tally.{Tally}
@@ -44,21 +41,21 @@ module _ (t : List ℤ) (list : List ℕ) where
     abbrev window : Option Refusal
     window = point_refusal (list_window list) p
 
-    pub point_refused : {r : Refusal} → accept_refusal t list ≡ some r → ListLocated t list p (located.Refused r)
+    pub point_refused : {r : Refusal} → accept_refusal t list ≡ some r → ListLocated t list p (Err r)
     point_refused h = record { answer = refused_by (window ∷ []) answer h }
 
     module _ (A : Accepted t list) where
-      pub point_out : {r : Refusal} → window ≡ some r → ListLocated t list p (located.Refused r)
+      pub point_out : {r : Refusal} → window ≡ some r → ListLocated t list p (Err r)
       point_out k = record { answer = goes_on (window ∷ []) answer A (told_now window [] answer k) }
 
       located_fine : (r : Located) → window ≡ none → told_located r ≡ fine answer → ListLocated t list p r
       located_fine r k e = record { answer = e ∙ goes_on (window ∷ []) answer A (told_later window [] answer k (told_fine answer)) }
 
-      pub point_inside : window ≡ none → inside_list (primitives t) list p ≡ true → ListLocated t list p located.Inside
-      point_inside k i = located_fine located.Inside k (ap (λ (b : Bool). fine (point_tale b)) (sym i))
+      pub point_inside : window ≡ none → inside_list (primitives t) list p ≡ true → ListLocated t list p (Ok true)
+      point_inside k i = located_fine (Ok true) k (ap (λ (b : Bool). fine (point_tale b)) (sym i))
 
-      pub point_outside : window ≡ none → inside_list (primitives t) list p ≡ false → ListLocated t list p located.Outside
-      point_outside k i = located_fine located.Outside k (ap (λ (b : Bool). fine (point_tale b)) (sym i))
+      pub point_outside : window ≡ none → inside_list (primitives t) list p ≡ false → ListLocated t list p (Ok false)
+      point_outside k i = located_fine (Ok false) k (ap (λ (b : Bool). fine (point_tale b)) (sym i))
 
   module _ (samples : List ℤ) (place : Place) where
     abbrev is_inside : Point → Bool
@@ -70,18 +67,18 @@ module _ (t : List ℤ) (list : List ℕ) where
     abbrev leaves : Option Refusal
     leaves = leaves_refusal (list_window list) samples place
 
-    pub search_refused : {r : Refusal} → accept_refusal t list ≡ some r → ListSearched t list samples place (searched.Refused r)
+    pub search_refused : {r : Refusal} → accept_refusal t list ≡ some r → ListSearched t list samples place (Err r)
     search_refused h = record { answer = refused_by (frame_refusal samples place ∷ leaves ∷ []) tale h }
 
     module _ (A : Accepted t list) where
-      pub search_frame : {r : Refusal} → frame_refusal samples place ≡ some r → ListSearched t list samples place (searched.Refused r)
+      pub search_frame : {r : Refusal} → frame_refusal samples place ≡ some r → ListSearched t list samples place (Err r)
       search_frame k = record { answer = goes_on (frame_refusal samples place ∷ leaves ∷ []) tale A (told_now (frame_refusal samples place) (leaves ∷ []) tale k) }
 
       module _ (f : frame_refusal samples place ≡ none) where
         framed : {told : Told} → told ≡ tell (first_of (leaves ∷ [])) tale → told ≡ tell (first_of (accept_refusal t list ∷ frame_refusal samples place ∷ leaves ∷ [])) tale
         framed e = goes_on (frame_refusal samples place ∷ leaves ∷ []) tale A (told_later (frame_refusal samples place) (leaves ∷ []) tale f e)
 
-        pub search_leaves : {r : Refusal} → leaves ≡ some r → ListSearched t list samples place (searched.Refused r)
+        pub search_leaves : {r : Refusal} → leaves ≡ some r → ListSearched t list samples place (Err r)
         search_leaves k = record { answer = framed (told_now leaves [] tale k) }
 
         pub search_fine : leaves ≡ none → {n : Tally} → Tallied (sample_inside is_inside samples place) (length samples) n

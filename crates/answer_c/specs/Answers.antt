@@ -1,15 +1,8 @@
 -- What C gets of a call, by what the outcome tells (section 12 of docs/RULES.md): its number and values as three numbers; and what C reads in them.
+use Rattle.std.specs.Prelude.{Ok, Err, None, true, false}
 use Rattle.std.specs.Prelude.{ℕ, eqb, if◌then◌else◌}
 use Rattle.rules.specs.declared.Refusal.{Refusal}
-use Rattle.rules.specs.declared.Checked.{Checked}
-use Rattle.rules.specs.declared.Checked.TheVariants as checked
-use Rattle.rules.specs.declared.Located.{Located}
-use Rattle.rules.specs.declared.Located.TheVariants as located
-use Rattle.rules.specs.declared.Searched.{Searched}
-use Rattle.rules.specs.declared.Searched.TheVariants as searched
-use Rattle.rules.specs.declared.Written.{Written}
-use Rattle.rules.specs.declared.Written.TheVariants as written
-use Rattle.rules.specs.Told.{Tale, sound, inside, outside, clear, hit, wrote, refusal, Told}
+use Rattle.rules.specs.Told.{Checked, Located, Searched, Written, Tale, sound, inside, outside, clear, hit, wrote, refusal, Told}
 use Rattle.answer_c.specs.declared.Answer.{Answer}
 
 abbrev pub value_of : Tale → ℕ
@@ -39,13 +32,13 @@ abbrev pub unless_refused : {Outcome : Type 0} → (Refusal → Outcome) → Ans
 unless_refused refused a fine = if eqb a.refusal 0 then fine else refused (record { number = a.refusal; value = a.value })
 
 abbrev pub read_checked : Answer → Checked
-read_checked a = unless_refused checked.Refused a checked.Sound
+read_checked a = unless_refused Err a (Ok tt)
 
 abbrev pub read_located : Answer → Located
-read_located a = unless_refused located.Refused a (if eqb a.value 0 then located.Outside else located.Inside)
+read_located a = unless_refused Err a (if eqb a.value 0 then (Ok false) else (Ok true))
 
 abbrev pub read_searched : Answer → Searched
-read_searched a = unless_refused searched.Refused a (if eqb a.count 0 then searched.Clear else searched.Hit a.value a.count)
+read_searched a = unless_refused Err a (if eqb a.count 0 then (Ok None) else searched.Hit a.value a.count)
 
 abbrev pub read_written : Answer → Written
-read_written a = unless_refused written.Refused a (written.Wrote a.value)
+read_written a = unless_refused Err a (Ok a.value)

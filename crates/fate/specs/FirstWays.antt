@@ -1,5 +1,5 @@
 -- The products of a list, as the ways of its zone come to them in order.
-use Rattle.std.specs.Prelude.{ℕ, ◌≤◌, ◌<◌, true, false, List, ◌≡◌, ℤ, length, get_or}
+use Rattle.std.specs.Prelude.{Ok, Err, ℕ, ◌≤◌, ◌<◌, true, false, List, ◌≡◌, ℤ, length, get_or}
 use Rattle.rules.specs.declared.Product.{Product}
 use Rattle.rules.specs.declared.Window.{Window}
 use Rattle.rules.specs.ListCalls.{most_choices}
@@ -8,7 +8,6 @@ use Rattle.rules.specs.Products.{same}
 use Rattle.rules.specs.Table.{primitives}
 use Rattle.promises.specs.EachOnce.{choice, kept, made, EachOnce}
 use Rattle.fate.specs.Fates.{fate_in}
-use Rattle.fate.specs.declared.Fate.TheVariants.{Dropped, Kept}
 use Rattle.fate.specs.declared.told.End.{End}
 use Rattle.fate.specs.declared.told.End.TheVariants as end
 
@@ -25,10 +24,10 @@ module _ (t : List ℤ) (w : Window) where
 
   -- what way k comes to
   abbrev pub ComesTo : List ℕ → ℕ → End → Type 0
-  ComesTo list k (end.Dropped axis) = fate_in w (primitives t) (choice t k) ≡ Dropped axis
-  ComesTo list k (end.Again c first) = (fate_in w (primitives t) (choice t k) ≡ Kept c) × ((first < k) × IsFirst c first)
+  ComesTo list k (end.Dropped axis) = fate_in w (primitives t) (choice t k) ≡ Err axis
+  ComesTo list k (end.Again c first) = (fate_in w (primitives t) (choice t k) ≡ Ok c) × ((first < k) × IsFirst c first)
   ComesTo list k (end.Listed c number) =
-      (fate_in w (primitives t) (choice t k) ≡ Kept c) × (IsFirst c k × ((number < product_count list) × (product_at list number ≡ c)))
+      (fate_in w (primitives t) (choice t k) ≡ Ok c) × (IsFirst c k × ((number < product_count list) × (product_at list number ≡ c)))
 
 -- the first k ways have been told: they came to the first n products, and `firsts` has the way that first came to each
 pub record ToldTo (t : List ℤ) (w : Window) (list firsts : List ℕ) (k n : ℕ) : Type 0 where

@@ -17,14 +17,6 @@ ghost use Rattle.choice.specs.Steps.{Numbered, Remembered};
 ghost use Rattle.fate.specs.Fates.{cut_by, fate_by, fate_in};
 
 use rules::{Axis, BoxShape, Product, Window};
-use table::Leaf;
-
-// Dropped, on the first axis on which the box is empty, or kept as this product.
-#[derive(Clone, Copy)]
-pub enum Fate {
-    Dropped(Axis),
-    Kept(Product),
-}
 
 // What two boxes have in common.
 fn cut_box(a: BoxShape, b: BoxShape) -> BoxShape
@@ -47,15 +39,9 @@ fn cut_by_row(table: &[i32], bits: &[u64; 127], row: usize, c: Product, b: BoxSh
     requires numbered { Numbered table.now bits.now }
     ensures { cut_by c (primitives_before table.now row) (bounds result) ≡ cut_by c (primitives_before table.now (row + 1)) (bounds b) }
 {
-    let leaf = table::primitive_at(table, row);
-    match leaf {
-        Leaf::Solid(s) => {
-            if bits[row] & c.plain == 0 {
-                return b;
-            }
-            cut_box(solid::box_of(s), b)
-        }
-        Leaf::None => b,
+    match table::primitive_at(table, row) {
+        Some(s) if bits[row] & c.plain != 0 => cut_box(solid::box_of(s), b),
+        _ => b,
     }
 }
 
@@ -65,53 +51,38 @@ pub fn product_box(table: &[i32], bits: &[u64; 127], c: Product, w: Window) -> B
     requires numbered { Numbered table.now bits.now }
     ensures { bounds result ≡ product_box w (primitives table.now) c }
 {
-    let mut b = BoxShape {
-        xlo: w.xlo,
-        xhi: w.xhi,
-        ylo: w.ylo,
-        yhi: w.yhi,
-        zlo: w.zlo,
-        zhi: w.zhi,
-    };
-    let mut row = table::row_count(table);
-    while 0 < row {
-        row -= 1;
+    let mut b = BoxShape::from(w);
+    for row in (0..table::row_count(table)).rev() {
         b = cut_by_row(table, bits, row, c, b);
     }
     b
 }
 
-// Dropped if the box is empty, and kept as a product if not.
-fn by_box(b: BoxShape, kept: Product) -> Fate
+// Kept as a product, or dropped on the first axis on which the box is empty.
+fn by_box(b: BoxShape, kept: Product) -> Result<Product, Axis>
     ensures { result ≡ fate_by (bounds b) kept }
 {
     if b.xhi < b.xlo {
-        return Fate::Dropped(Axis::Column);
+        return Err(Axis::Column);
     }
     if b.yhi < b.ylo {
-        return Fate::Dropped(Axis::Code);
+        return Err(Axis::Code);
     }
     if b.zhi < b.zlo {
-        return Fate::Dropped(Axis::Frame);
+        return Err(Axis::Frame);
     }
-    Fate::Kept(kept)
+    Ok(kept)
 }
 
-// What becomes of a choice in a window.
-pub fn fate_in(table: &[i32], bits: &[u64; 127], c: Product, w: Window) -> Fate
+// What becomes of a choice in a window: the product that is kept of it, or the first axis on which its box is empty.
+pub fn fate_in(table: &[i32], bits: &[u64; 127], c: Product, w: Window) -> Result<Product, Axis>
     requires sound { Sound table.now }
     requires numbered { Numbered table.now bits.now }
     ensures { result ≡ fate_in w (primitives table.now) c }
 {
     let b = product_box(table, bits, c, w);
     let cuts = c.cuts & reach::sharing_with(table, b);
-    by_box(
-        b,
-        Product {
-            plain: c.plain,
-            cuts,
-        },
-    )
+    by_box(b, Product { cuts, ..c })
 }
 
 // How many ways of choosing a zone has.

@@ -9,7 +9,6 @@ ghost use Rattle.laws.specs.Sound.{Sound};
 ghost use Rattle.choice.specs.Steps.{Numbered, Remembered};
 ghost use Rattle.fate.specs.FirstWays.{NumberIn, ToldTo, ComesTo};
 
-use crate::Fate;
 use rules::{Axis, Product, Window};
 
 // What a way comes to: nothing, an earlier way's product, or a product of the list that no earlier way came to.
@@ -34,15 +33,12 @@ fn number_in(list: &[u64], c: Product) -> usize
     ensures { NumberIn list.now c result }
 {
     let count = list[0] as usize;
-    let mut k: usize = 0;
-    while k < count {
-        let p = layout::product_at(list, k);
-        if (p.plain == c.plain) & (p.cuts == c.cuts) {
+    for k in 0..count {
+        if layout::product_at(list, k) == c {
             return k;
         }
-        k += 1;
     }
-    k
+    count
 }
 
 // Way k, after so many products.
@@ -60,20 +56,19 @@ pub fn tell_way(
     requires numbered { Numbered table.now bits.now }
     requires remembered { Remembered table.now counts.old }
     requires k_bound { k < expansion (tree_of table.now) }
-    requires told_to { ToldTo table.now w list.now firsts.old k products }
-    ensures remembered_2 { Remembered table.now counts.new }
-    ensures chosen_value { (result.chosen ≡ choice table.now k) × ComesTo table.now w list.now k result.end }
-    ensures told_to_2 { ToldTo table.now w list.now firsts.new (k + 1) result.products }
+    requires told_so_far { ToldTo table.now w list.now firsts.old k products }
+    ensures remembered { Remembered table.now counts.new }
+    ensures comes_to { (result.chosen ≡ choice table.now k) × ComesTo table.now w list.now k result.end }
+    ensures told_to { ToldTo table.now w list.now firsts.new (k + 1) result.products }
 {
     let chosen = crate::way(table, bits, counts, k);
-    let fate = crate::fate_in(table, bits, chosen, w);
-    match fate {
-        Fate::Dropped(axis) => Told {
+    match crate::fate_in(table, bits, chosen, w) {
+        Err(axis) => Told {
             chosen,
             end: End::Dropped(axis),
             products,
         },
-        Fate::Kept(c) => {
+        Ok(c) => {
             let number = number_in(list, c);
             if number < products {
                 return Told {

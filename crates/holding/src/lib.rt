@@ -12,7 +12,6 @@ ghost use Rattle.holding.specs.Holding.{Holding};
 use calm::Rect;
 use reach::Gathered;
 use rules::Point;
-use table::Leaf;
 
 // The primitives that were found to hold the point, and the rectangle on which none of those that were met changes its answer.
 #[derive(Clone, Copy)]
@@ -29,16 +28,12 @@ fn hold_row(table: &[i32], row: usize, p: Point, h: Held) -> Held
     requires holding { Holding (primitives_before table.now row) p h }
     ensures { Holding (primitives_before table.now (row + 1)) p result }
 {
-    let leaf = table::primitive_at(table, row);
-    match leaf {
-        Leaf::Solid(s) => {
-            let found = h.found;
-            let rect = h.rect;
-            let found = reach::added(found, solid::in_solid(s, p));
-            let rect = calm::narrow_by(s, p, rect);
-            Held { found, rect }
-        }
-        Leaf::None => h,
+    match table::primitive_at(table, row) {
+        Some(s) => Held {
+            found: reach::added(h.found, solid::in_solid(s, p)),
+            rect: calm::narrow_by(s, p, h.rect),
+        },
+        None => h,
     }
 }
 
@@ -56,10 +51,8 @@ pub fn hold_at(table: &[i32], p: Point) -> Held
         roof: span::LAST,
     };
     let mut h = Held { found, rect };
-    let mut row: usize = 0;
-    while row < rows {
+    for row in 0..rows {
         h = hold_row(table, row, p, h);
-        row += 1;
     }
     h
 }

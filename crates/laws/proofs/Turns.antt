@@ -4,7 +4,7 @@ use Rattle.std.proofs.lemmas.Result.{err_from_is_err_and}
 use Prim.Native.Nat.{ℕ, ◌+◌, ◌≤◌, ◌<◌}
 use mathlib.Core.List.{List, [], ◌∷◌, ◌++◌}
 use mathlib.Core.Option.{Option, none, some}
-use mathlib.Core.Path.{◌≡◌, sym, ap, ◌∙◌}
+use mathlib.Core.Path.{◌≡◌, sym, ap, subst, ◌∙◌}
 use Rattle.ground.specs.Lists.{first_of, rulings}
 use Rattle.ground.proofs.Counting.{kept, broken, all_kept, first_append}
 use Rattle.rules.specs.declared.Refusal.{Refusal}
@@ -15,6 +15,10 @@ use Rattle.laws.proofs.Telling.{went_on, stopped}
 -- what the exit of a `?` answers is the refusal that it met
 pub handed_on : {A : Type 0} {r : Result A Refusal} {e : Refusal} → IsErrAnd r (λ d. d ≡ e) → r ≡ Err e
 handed_on {r = r} h = let p = err_from_is_err_and r h in p.1 ∙ ap Err p.2
+
+-- and what holds of the answer that refuses so holds of it
+pub on_exit : {A : Type 0} (P : Result A Refusal → Type 0) {r : Result A Refusal} {e : Refusal} → IsErrAnd r (λ d. d ≡ e) → P (Err e) → P r
+on_exit P at p = subst P (sym (handed_on at)) p
 
 -- a rule for each of the numbers below n, of which those below k were kept
 module _ (rule : ℕ → Option Refusal) {k n : ℕ} (kept_so_far : rulings rule 0 n ≡ rulings rule k n) where

@@ -15,7 +15,7 @@ ghost use Rattle.rows.specs.Rows.{SoundRows};
 ghost use Rattle.walk.specs.Tracks.{walk_at, start_of};
 ghost use Rattle.list.specs.Words.{Measured};
 
-use rules::{Checked, Refusal, Window, Written};
+use rules::{Refusal, Rule, Window};
 
 // Words that are enough: room for every way where that is there, so that one walk does; else exactly what the products take.
 fn measure(
@@ -45,7 +45,7 @@ fn make_of(
     bits: &[u64; 127],
     solids: usize,
     ways: u64,
-) -> Written
+) -> Result<usize, Refusal>
     requires table_value { (table_refusal table.now ≡ none) × (window_refusal w ≡ none) }
     requires numbered { Numbered table.now bits.now × (solids ≡ length (primitives table.now)) }
     requires ways_value { (ways ≡ count (root_plan table.now)) × (ways ≤ most_choices) }
@@ -57,18 +57,15 @@ fn make_of(
     let end = laying::lay(table, bits, seen, &mut links, &mut masks);
     let needed = measure(list, &links, &masks, end, seen, ways);
     if list.len() < needed {
-        return Written::Refused(Refusal {
-            number: 8,
-            value: needed as u64,
-        });
+        return Err(Refusal::new(Rule::Room, needed));
     }
     let n = walk::walk(&links, &masks, end, seen, list, true);
     layout::write_header(list, w, solids, n);
-    Written::Wrote(layout::place_of(n))
+    Ok(layout::place_of(n))
 }
 
 // The table is sound and the window right: the ways, then the list.
-fn make_for(list: &mut [u64], table: &[i32], w: Window) -> Written
+fn make_for(list: &mut [u64], table: &[i32], w: Window) -> Result<usize, Refusal>
     requires { (table_refusal table.now ≡ none) × (window_refusal w ≡ none) }
     ensures { ListMade table.now w list.old list.new result }
 {
@@ -76,8 +73,8 @@ fn make_for(list: &mut [u64], table: &[i32], w: Window) -> Written
     let solids = choice::number_rows(&mut bits, table);
     let ways = choice::ways_of(table, &bits);
     if rules::MOST_CHOICES < ways {
-        return Written::Refused(Refusal {
-            number: 7,
+        return Err(Refusal {
+            rule: Rule::Choices,
             value: ways,
         });
     }
@@ -85,23 +82,17 @@ fn make_for(list: &mut [u64], table: &[i32], w: Window) -> Written
 }
 
 // The table is sound: the window, then the list.
-fn make_in(list: &mut [u64], table: &[i32], w: Window) -> Written
+fn make_in(list: &mut [u64], table: &[i32], w: Window) -> Result<usize, Refusal>
     requires { table_refusal table.now ≡ none }
     ensures { ListMade table.now w list.old list.new result }
 {
-    let checked = window::check_window(w);
-    match checked {
-        Checked::Refused(refusal) => Written::Refused(refusal),
-        Checked::Sound => make_for(list, table, w),
-    }
+    window::check_window(w)?;
+    make_for(list, table, w)
 }
 
-pub fn make_list(table: &[i32], w: Window, list: &mut [u64]) -> Written
+pub fn make_list(table: &[i32], w: Window, list: &mut [u64]) -> Result<usize, Refusal>
     ensures { ListMade table.now w list.old list.new result }
 {
-    let checked = table::check(table);
-    match checked {
-        Checked::Refused(refusal) => Written::Refused(refusal),
-        Checked::Sound => make_in(list, table, w),
-    }
+    table::check(table)?;
+    make_in(list, table, w)
 }

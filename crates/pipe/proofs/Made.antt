@@ -1,4 +1,5 @@
 -- What is printed for a table, from what making its list for the full range answers. Assumes nothing.
+use Rattle.std.specs.Prelude.{Ok, Err}
 use Prim.Native.Nat.{ℕ, ◌≤◌}
 use native.Mathlib.Omega.{arith}
 use mathlib.Core.List.{List, []}
@@ -12,8 +13,6 @@ use Rattle.ground.proofs.Counting.{first_kept}
 use Rattle.rules.specs.declared.Product.{Product}
 use Rattle.rules.specs.declared.Refusal.{Refusal}
 use Rattle.rules.specs.declared.Window.{Window}
-use Rattle.rules.specs.declared.Written.{Written}
-use Rattle.rules.specs.declared.Written.TheVariants.{Wrote, Refused}
 use Rattle.rules.specs.Choices.{expansion}
 use Rattle.rules.specs.ListCalls.{window_refusal, choices_refusal, zone_list, make_refusal, ListMade}
 use Rattle.rules.specs.Boxes.{full_range}
@@ -30,6 +29,7 @@ use Rattle.laws.proofs.Words.{list_length, list_count, zone_products}
 use Rattle.laws.proofs.ZoneProducts.{is_over}
 use Rattle.print.proofs.Lengths.{list_most, refusal_most}
 use Rattle.pipe.specs.Tables.{table_listing}
+use Rattle.rules.specs.Told.{Written}
 
 -- the window that was lent is the full range, and the answer is this one
 pub made_as : {t : List ℤ} {w : Window} {before after : List ℕ} {r s : Written} → w ≡ full_range → r ≡ s → ListMade t w before after r
@@ -63,13 +63,13 @@ module _ (t : List ℤ) where
 
   module _ (before after : List ℕ) (size : length before ≡ listing_room) where
     -- the list was refused
-    pub refused_listing : {r : Refusal} → ListMade t full_range before after (Refused r) → table_listing t ≡ refusal_line r
+    pub refused_listing : {r : Refusal} → ListMade t full_range before after (Err r) → table_listing t ≡ refusal_line r
     refused_listing made =
         let refusal = refused_some (rules (length before)) (length (zone_list t full_range)) made.answer in
         ap (λ (x : Option Refusal). printed x all) (ap rules (sym size) ∙ refusal)
 
     -- or it was made: its products are those of the zone, and all of them are there
-    module _ {n : ℕ} (made : ListMade t full_range before after (Wrote n)) where
+    module _ {n : ℕ} (made : ListMade t full_range before after (Ok n)) where
       fine : rules (length before) ≡ none
       fine = (wrote_none (rules (length before)) (length (zone_list t full_range)) n made.answer).0
 

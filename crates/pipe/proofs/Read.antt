@@ -1,5 +1,6 @@
 -- What is printed for a text, from what reading it answers: a table of 127 rows has room, so only its form and its table are refused.
 -- Assumes nothing.
+use Rattle.std.specs.Prelude.{Ok, Err}
 use Prim.Native.Nat.{ℕ, ◌*◌, ◌≤◌}
 use native.Mathlib.Nat.{zero-add}
 use native.Mathlib.Omega.{arith}
@@ -12,8 +13,8 @@ use lib.IntN.{ℤ}
 use lib.ListN.{length, take}
 use Rattle.ground.specs.Lists.{or_else, first_of}
 use Rattle.ground.proofs.Counting.{or_else_none, first_kept}
+use Rattle.rules.specs.declared.Rule.TheVariants as rule
 use Rattle.rules.specs.declared.Refusal.{Refusal}
-use Rattle.rules.specs.declared.Written.TheVariants.{Wrote, Refused}
 use Rattle.rules.specs.ListCalls.{make_refusal}
 use Rattle.rules.specs.Boxes.{full_range}
 use Rattle.rules.specs.Listing.{listing_room, refusal_line, printed, listing_refusal, listing, ZoneListed}
@@ -58,7 +59,7 @@ module _ {text : List ℕ} (form : TextForm text) where
       record { form = form; size = put.end ∙ zero-add (length (listing form)); buffer = put_over room put }
 
 -- the text was refused
-pub text_refused : {text : List ℕ} {room table : List ℤ} {r : Refusal} → length room ≡ most_rows * row_words → TextRead text room table (Refused r)
+pub text_refused : {text : List ℕ} {room table : List ℤ} {r : Refusal} → length room ≡ most_rows * row_words → TextRead text room table (Err r)
     → {before after : List ℕ} {n : ℕ} → 171890 ≤ length before → Put before 0 (refusal_line r) after n
     → ZoneListed text before after n × (n ≤ 171890)
 unfolding first_of
@@ -66,13 +67,13 @@ text_refused {room = room} {r = r} size read fits p =
     let form = read.form in
     let t = table_read form in
     let kept : table_refusal t ≡ none → room_refusal (length t) (length room) ≡ none
-    = λ e. ap (λ (b : Bool). refuse_unless b 8 (length t)) (le-leb (length t) (length room) (omega (arith, few_words t e))) in
+    = λ e. ap (λ (b : Bool). refuse_unless b rule.Room (length t)) (le-leb (length t) (length room) (omega (arith, few_words t e))) in
     let refusal = refused_some (read_refusal form (length room)) (length t) read.answer in
     let same = refused_before (form_refusal form) (table_refusal t) (room_refusal (length t) (length room)) _ kept refusal in
     (listed_as form same (omega (arith, refusal_most r)) p, omega (arith, p.end, refusal_most r))
 
 -- or a table was read, and what is printed for it is printed for the text
-module _ {text : List ℕ} {room table : List ℤ} {m : ℕ} (read : TextRead text room table (Wrote m)) where
+module _ {text : List ℕ} {room table : List ℤ} {m : ℕ} (read : TextRead text room table (Ok m)) where
   abbrev t : List ℤ
   t = table_read read.form
 

@@ -1,4 +1,5 @@
 -- What the call answers, by the first rule that is broken; and what it leaves where none is. Assumes nothing.
+use Rattle.std.specs.Prelude.{Ok, Err}
 use Prim.Native.Nat.{ℕ, ◌+◌, ◌-◌, ◌*◌, ◌≤◌, ◌<◌}
 use mathlib.Core.Bool.{Bool, true, false, ◌&&◌, ◌||◌}
 use mathlib.Core.List.{List, [], ◌∷◌, ◌++◌}
@@ -15,8 +16,8 @@ use lib.Seq.{sets, sets-eq, length-sets}
 use Rattle.ground.specs.Lists.{first_of}
 use Rattle.ground.proofs.Branches.{or_cases}
 use Rattle.ground.proofs.Counting.{first_broken, first_passed}
+use Rattle.rules.specs.declared.Rule.TheVariants as rule
 use Rattle.rules.specs.declared.Refusal.{Refusal}
-use Rattle.rules.specs.declared.Written.TheVariants as written
 use Rattle.rules.specs.Choices.{expansion}
 use Rattle.rules.specs.Form.{Form, form_of}
 use Rattle.rules.specs.Outcome.{over, leave}
@@ -60,57 +61,57 @@ long_enough a b h = let e = or_false (ltb a rewrite_words) (ltb b rewrite_words)
 -- ---- the rules in their order
 module _ (t before work : List ℤ) where
   abbrev many_primitives : Option Refusal
-  many_primitives = refuse_unless (leb (length (primitives t)) most_rewritten) 14 (length (primitives t))
+  many_primitives = refuse_unless (leb (length (primitives t)) most_rewritten) rule.Leaves (length (primitives t))
 
   abbrev many_ways : Option Refusal
-  many_ways = refuse_unless (leb (expansion (tree_of t)) most_ways) 15 (expansion (tree_of t))
+  many_ways = refuse_unless (leb (expansion (tree_of t)) most_ways) rule.Ways (expansion (tree_of t))
 
   abbrev no_room : Option Refusal
-  no_room = refuse_unless (leb rewrite_words (length before) && leb rewrite_words (length work)) 8 rewrite_words
+  no_room = refuse_unless (leb rewrite_words (length before) && leb rewrite_words (length work)) rule.Room rewrite_words
 
-  refused_by : {r : Refusal} → rewrite_refusal t (length before) (length work) ≡ some r → TreeRewritten t before before work work (written.Refused r)
+  refused_by : {r : Refusal} → rewrite_refusal t (length before) (length work) ≡ some r → TreeRewritten t before before work work (Err r)
   refused_by h = record {
     answer = sym (ap (λ (x : Option Refusal). tell x (wrote (length (finished_rows t)))) h);
     tree = sym (ap (λ (x : Option Refusal). leave x (finished_rows t) before) h);
     zeroed = sym (ap (λ (x : Option Refusal). leave x (replicate (length work) (pos 0)) work) h);
   }
 
-  pub by_table : {r : Refusal} → table_refusal t ≡ some r → TreeRewritten t before before work work (written.Refused r)
+  pub by_table : {r : Refusal} → table_refusal t ≡ some r → TreeRewritten t before before work work (Err r)
   by_table h = refused_by (first_broken (table_refusal t) (many_primitives ∷ many_ways ∷ no_room ∷ []) h)
 
   module _ (h : table_refusal t ≡ none) where
     past_table : rewrite_refusal t (length before) (length work) ≡ first_of (many_primitives ∷ many_ways ∷ no_room ∷ [])
     past_table = first_passed (table_refusal t) (many_primitives ∷ many_ways ∷ no_room ∷ []) h
 
-    pub by_primitives : {n : ℕ} → n ≡ length (primitives t) → most_rewritten < n → TreeRewritten t before before work work (written.Refused (record { number = 14; value = n }))
+    pub by_primitives : {n : ℕ} → n ≡ length (primitives t) → most_rewritten < n → TreeRewritten t before before work work (Err (record { rule = rule.Leaves; value = n }))
     by_primitives {n} e l =
-        let z : many_primitives ≡ refuse 14 n =
-        ap (λ (x : ℕ). refuse_unless (leb x most_rewritten) 14 x) (sym e) ∙ ap (λ (b : Bool). refuse_unless b 14 n) (lt-leb n most_rewritten l) in
+        let z : many_primitives ≡ refuse 1rule.Children n =
+        ap (λ (x : ℕ). refuse_unless (leb x most_rewritten) rule.Leaves x) (sym e) ∙ ap (λ (b : Bool). refuse_unless b rule.Leaves n) (lt-leb n most_rewritten l) in
         refused_by (past_table ∙ first_broken many_primitives (many_ways ∷ no_room ∷ []) z)
 
     module _ (few : length (primitives t) ≤ most_rewritten) where
       past_primitives : rewrite_refusal t (length before) (length work) ≡ first_of (many_ways ∷ no_room ∷ [])
       past_primitives =
-          past_table ∙ first_passed many_primitives (many_ways ∷ no_room ∷ []) (ap (λ (b : Bool). refuse_unless b 14 (length (primitives t))) (le-leb (length (primitives t)) most_rewritten few))
+          past_table ∙ first_passed many_primitives (many_ways ∷ no_room ∷ []) (ap (λ (b : Bool). refuse_unless b rule.Leaves (length (primitives t))) (le-leb (length (primitives t)) most_rewritten few))
 
-      pub by_ways : {n : ℕ} → n ≡ expansion (tree_of t) → most_ways < n → TreeRewritten t before before work work (written.Refused (record { number = 15; value = n }))
+      pub by_ways : {n : ℕ} → n ≡ expansion (tree_of t) → most_ways < n → TreeRewritten t before before work work (Err (record { rule = rule.Ways; value = n }))
       by_ways {n} e l =
-          let z : many_ways ≡ refuse 15 n = ap (λ (x : ℕ). refuse_unless (leb x most_ways) 15 x) (sym e) ∙ ap (λ (b : Bool). refuse_unless b 15 n) (lt-leb n most_ways l) in
+          let z : many_ways ≡ refuse 1rule.Once n = ap (λ (x : ℕ). refuse_unless (leb x most_ways) rule.Ways x) (sym e) ∙ ap (λ (b : Bool). refuse_unless b rule.Ways n) (lt-leb n most_ways l) in
           refused_by (past_primitives ∙ first_broken many_ways (no_room ∷ []) z)
 
       module _ (ways : expansion (tree_of t) ≤ most_ways) where
         past_ways : rewrite_refusal t (length before) (length work) ≡ first_of (no_room ∷ [])
-        past_ways = past_primitives ∙ first_passed many_ways (no_room ∷ []) (ap (λ (b : Bool). refuse_unless b 15 (expansion (tree_of t))) (le-leb (expansion (tree_of t)) most_ways ways))
+        past_ways = past_primitives ∙ first_passed many_ways (no_room ∷ []) (ap (λ (b : Bool). refuse_unless b rule.Ways (expansion (tree_of t))) (le-leb (expansion (tree_of t)) most_ways ways))
 
         pub by_room : (leb rewrite_words (length before) && leb rewrite_words (length work)) ≡ false
-            → TreeRewritten t before before work work (written.Refused (record { number = 8; value = 24573 }))
-        by_room e = refused_by (past_ways ∙ first_broken no_room [] (ap (λ (b : Bool). refuse_unless b 8 rewrite_words) e))
+            → TreeRewritten t before before work work (Err (record { rule = rule.Room; value = 24573 }))
+        by_room e = refused_by (past_ways ∙ first_broken no_room [] (ap (λ (b : Bool). refuse_unless b rule.Room rewrite_words) e))
 
-  pub by_none : {after cleared : List ℤ} {n : ℕ} → Limits t before work → Finished t before after work cleared n → TreeRewritten t before after work cleared (written.Wrote n)
+  pub by_none : {after cleared : List ℤ} {n : ℕ} → Limits t before work → Finished t before after work cleared n → TreeRewritten t before after work cleared (Ok n)
   unfolding first_of
   by_none {after} {cleared} {n} l f =
       let z : no_room ≡ none =
-      ap (λ (b : Bool). refuse_unless b 8 rewrite_words) (ap₂ ◌&&◌ (le-leb rewrite_words (length before) l.room) (le-leb rewrite_words (length work) l.work_room)) in
+      ap (λ (b : Bool). refuse_unless b rule.Room rewrite_words) (ap₂ ◌&&◌ (le-leb rewrite_words (length before) l.room) (le-leb rewrite_words (length work) l.work_room)) in
       let fine : rewrite_refusal t (length before) (length work) ≡ none = past_ways l.sound l.few l.ways ∙ first_passed no_room [] z in
       record {
         answer = ap (λ (k : ℕ). tell none (wrote k)) f.size ∙ sym (ap (λ (x : Option Refusal). tell x (wrote (length (finished_rows t)))) fine);

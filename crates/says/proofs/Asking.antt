@@ -8,6 +8,7 @@ use lib.Dec.{eqb}
 use lib.IntN.{ℤ}
 use lib.ListN.{length}
 use Rattle.ground.proofs.Counting.{first_kept}
+use Rattle.rules.specs.declared.Rule.TheVariants as rule
 use Rattle.rules.specs.declared.Point.{Point}
 use Rattle.rules.specs.ListCalls.{accept_refusal}
 use Rattle.rules.specs.ListFaults.{list_refusal, primitives_refusal}
@@ -34,7 +35,7 @@ accepted t list e =
 -- a list that was accepted has as many primitives as the table
 same_counts : (t : List ℤ) (list : List ℕ) → Accepted t list → primitive_count list ≡ length (primitives t)
 same_counts t list A =
-    eqb-true (primitive_count list) (length (primitives t)) (unless_kept (eqb (primitive_count list) (length (primitives t))) 11 (length (primitives t)) A.counts)
+    eqb-true (primitive_count list) (length (primitives t)) (unless_kept (eqb (primitive_count list) (length (primitives t))) rule.Primitives (length (primitives t)) A.counts)
 
 pub by_set : (asked : Asked) (t : List ℤ) (list : List ℕ) (p : Point) → Ready asked t list → inside_by asked t list p ≡ said_by asked t list (held (primitives t) p)
 by_set asked.Tree t list p S = tree_by_set t S p

@@ -55,10 +55,8 @@ fn tree_says(table: &[i32], set: u64) -> bool
     let rows = table::row_count(table);
     let mut answers: [bool; 127] = [false; 127];
     let mut left = set;
-    let mut row: usize = 0;
-    while row < rows {
+    for row in 0..rows {
         left = says_row(&mut answers, table, row, left);
-        row += 1;
     }
     answers[rows - 1]
 }
@@ -75,12 +73,10 @@ fn suits_some(list: &[u64], set: u64) -> bool
     ensures { result ≡ suits_some list.now set }
 {
     let count = list[0] as usize;
-    let mut k: usize = 0;
-    while k < count {
+    for k in 0..count {
         if suits(layout::product_at(list, k), set) {
             return true;
         }
-        k += 1;
     }
     false
 }

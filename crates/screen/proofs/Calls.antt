@@ -1,4 +1,5 @@
 -- What the search of a screenful answers, from the rules that were kept or broken on the way. Assumes nothing.
+use Rattle.std.specs.Prelude.{Ok, Err}
 use Prim.Native.Nat.{ℕ, ◌*◌, ◌≤◌}
 use mathlib.Core.List.{List, [], ◌∷◌}
 use mathlib.Core.Option.{Option, none, some}
@@ -11,8 +12,6 @@ use lib.Seq.{sets}
 use Rattle.ground.proofs.Counting.{first_broken, first_passed, first_kept}
 use Rattle.rules.specs.declared.Place.{Place}
 use Rattle.rules.specs.declared.Refusal.{Refusal}
-use Rattle.rules.specs.declared.Written.{Written}
-use Rattle.rules.specs.declared.Written.TheVariants.{Wrote, Refused}
 use Rattle.rules.specs.ListCalls.{accept_refusal, screen_triples, screen_refusal, ScreenSearched}
 use Rattle.rules.specs.Refusals.{room_refusal}
 use Rattle.rules.specs.Screen.{frames_refusal, triple_words}
@@ -21,6 +20,7 @@ use Rattle.laws.proofs.Soundness.{unless_kept}
 use Rattle.says.specs.Checks.{Accepted}
 use Rattle.screen.specs.Shape.{shape_refusal}
 use Rattle.screen.proofs.Frames.{triples_length, triples_all}
+use Rattle.rules.specs.Told.{Written}
 
 -- where nothing is refused of it, the shape is right and there is room
 pub shape_kept : (codes : List ℤ) (frames room : ℕ) → shape_refusal codes frames room ≡ none → (frames_refusal codes frames ≡ none) × (triple_words * frames ≤ room)
@@ -46,17 +46,17 @@ module _ (t : List ℤ) (list : List ℕ) (codes : List ℤ) (frames : ℕ) (pla
   by_left : {after : List ℕ} {r : Written} → Left rule (triple_words * frames) words before after r → Outcome after r
   by_left L = record { answer = L.answer; buffer = L.buffer }
 
-  pub not_accepted : {r : Refusal} → accept_refusal t list ≡ some r → Outcome before (Refused r)
+  pub not_accepted : {r : Refusal} → accept_refusal t list ≡ some r → Outcome before (Err r)
   not_accepted h = by_left (as_it_was rule (triple_words * frames) words before (first_broken (accept_refusal t list) shape h))
 
   module _ (A : Accepted t list) where
     past_accept : rule ≡ shape_refusal codes frames (length before)
     past_accept = first_passed (accept_refusal t list) shape A.accepts
 
-    pub shape_wrong : {r : Refusal} → shape_refusal codes frames (length before) ≡ some r → Outcome before (Refused r)
+    pub shape_wrong : {r : Refusal} → shape_refusal codes frames (length before) ≡ some r → Outcome before (Err r)
     shape_wrong h = by_left (as_it_was rule (triple_words * frames) words before (past_accept ∙ h))
 
-    pub written : shape_refusal codes frames (length before) ≡ none → {after : List ℕ} → after ≡ sets before 0 words → Outcome after (Wrote (triple_words * frames))
+    pub written : shape_refusal codes frames (length before) ≡ none → {after : List ℕ} → after ≡ sets before 0 words → Outcome after (Ok (triple_words * frames))
     written right is =
         let size = ap length (triples_all t list codes frames place) ∙ triples_length t list codes frames place frames in
         by_left (at_its_start rule (triple_words * frames) words before (past_accept ∙ right) size (shape_kept codes frames (length before) right).1 is)

@@ -13,6 +13,7 @@ use lib.ListN.{length}
 use lib.Seq.{sets}
 use Rattle.ground.specs.Lists.{below}
 use Rattle.ground.proofs.Writes.{made_pieces_length, piece_more}
+use Rattle.rules.specs.declared.Rule.TheVariants as rule
 use Rattle.rules.specs.declared.Place.{Place}
 use Rattle.rules.specs.ListCalls.{frame_triple, screen_triples}
 use Rattle.rules.specs.Refusals.{refuse, refuse_if}
@@ -27,16 +28,16 @@ module _ (codes : List ℤ) (frames : ℕ) where
   abbrev uneven : Bool
   uneven = not (eqb (length codes % frames) 0)
 
-  pub count_wrong : wrong_count ≡ true → frames_refusal codes frames ≡ refuse 12 0
+  pub count_wrong : wrong_count ≡ true → frames_refusal codes frames ≡ refuse 1rule.Kind 0
   count_wrong h = go (eqb frames 0) (ltb most_frames frames) h
     where
-      go : (a b : Bool) → (a || b) ≡ true → refuse_if (a || (b || uneven)) 12 0 ≡ refuse 12 0
+      go : (a b : Bool) → (a || b) ≡ true → refuse_if (a || (b || uneven)) rule.Frame 0 ≡ refuse 1rule.Kind 0
       go true b e = refl
       go false true e = refl
       go false false e = cc
 
   module _ (h : wrong_count ≡ false) where
-    pub count_right : frames_refusal codes frames ≡ refuse_if uneven 12 0
+    pub count_right : frames_refusal codes frames ≡ refuse_if uneven rule.Frame 0
     count_right = let each = or_false (eqb frames 0) (ltb most_frames frames) h in rw (each.0, each.1)
 
     pub one_frame : 1 ≤ frames

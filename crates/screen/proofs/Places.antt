@@ -13,10 +13,10 @@ use lib.Signed.{mag, lt_z}
 use mir.Syntax.{w32}
 use mir.Val.{SFits}
 use Rattle.ground.specs.Lists.{below, all_of, first_of}
+use Rattle.rules.specs.declared.Rule.TheVariants as rule
 use Rattle.rules.specs.declared.Axis.TheVariants.{Frame}
 use Rattle.rules.specs.declared.Place.{Place}
 use Rattle.rules.specs.declared.Refusal.{Refusal}
-use Rattle.rules.specs.declared.Searched.{Searched}
 use Rattle.rules.specs.Frame.{most_samples, leaves_refusal, first_inside, inside_count}
 use Rattle.rules.specs.ListCalls.{accept_refusal, list_search_told, ListSearched}
 use Rattle.rules.specs.ListInside.{inside_list}
@@ -25,14 +25,14 @@ use Rattle.rules.specs.Ranges.{within, greatest, columns, frames}
 use Rattle.rules.specs.Screen.{most_frames}
 use Rattle.rules.specs.Refusals.{refuse, refuse_if, refuse_unless}
 use Rattle.rules.specs.Table.{primitives}
-use Rattle.rules.specs.Told.{Tale, Told, tell}
+use Rattle.rules.specs.Told.{Searched, Tale, Told, tell}
 use Rattle.rules.specs.TreeCalls.{search_tale}
 use Rattle.screen.specs.Places.{Alike, same, beyond}
 
 -- the frame is refused, so that neither its window nor what it hits is looked at
 refused_alike : (accept length columns : Option Refusal) (u v : Option Refusal) (m n : Tale)
-    → tell (first_of (accept ∷ first_of (length ∷ columns ∷ refuse 12 2 ∷ []) ∷ u ∷ [])) m
-    ≡ tell (first_of (accept ∷ first_of (length ∷ columns ∷ refuse 12 2 ∷ []) ∷ v ∷ [])) n
+    → tell (first_of (accept ∷ first_of (length ∷ columns ∷ refuse 1rule.Kind 2 ∷ []) ∷ u ∷ [])) m
+    ≡ tell (first_of (accept ∷ first_of (length ∷ columns ∷ refuse 1rule.Kind 2 ∷ []) ∷ v ∷ [])) n
 unfolding first_of
 refused_alike (some q) length columns u v m n = refl
 refused_alike none (some q) columns u v m n = refl
@@ -48,9 +48,9 @@ module _ (t : List ℤ) (list : List ℕ) (samples : List ℤ) where
       (first_of
       (accept_refusal t list
       ∷ first_of
-      (refuse_if (eqb (length samples) 0 || ltb most_samples (length samples)) 12 0
-      ∷ refuse_unless (all_of (λ k. within columns (first +ℤ pos k)) (below (length samples))) 12 1
-      ∷ refuse_unless in_range 12 2
+      (refuse_if (eqb (length samples) 0 || ltb most_samples (length samples)) rule.Frame 0
+      ∷ refuse_unless (all_of (λ k. within columns (first +ℤ pos k)) (below (length samples))) rule.Frame 1
+      ∷ refuse_unless in_range rule.Frame 2
       ∷ [])
       ∷ leaves_refusal (list_window list) samples place
       ∷ []))

@@ -13,6 +13,7 @@ use Rattle.ground.proofs.Counting.{numbers_below, first_kept}
 use Rattle.ground.proofs.Lists.{all_map, found}
 use Rattle.ground.proofs.Namings.{count_most}
 use Rattle.ground.proofs.Pieces.{from_length}
+use Rattle.rules.specs.declared.Rule.TheVariants as rule
 use Rattle.rules.specs.declared.Place.{Place}
 use Rattle.rules.specs.declared.Point.{Point}
 use Rattle.rules.specs.declared.Refusal.{Refusal}
@@ -55,7 +56,7 @@ module _ (samples : List ℤ) (place : Place) where
     leaves_small : (window : Box) → Gives SmallRefusal (leaves_refusal window samples place)
     leaves_small window =
         let is_in : ℕ → Bool = λ k. holds window (point_of place k (code_at samples k)) in
-        rulings_give SmallRefusal (λ k. refuse_unless (is_in k) 10 k) (length samples) (λ k l. unless_gives SmallRefusal (is_in k) 10 k (few 10 k (omega arith) (omega arith)))
+        rulings_give SmallRefusal (λ k. refuse_unless (is_in k) rule.Outside k) (length samples) (λ k l. unless_gives SmallRefusal (is_in k) 10 k (few 10 k (omega arith) (omega arith)))
 
     found_small : (is_inside : Point → Bool) → Small (fine (search_tale (first_inside is_inside samples place) (inside_count is_inside samples place)))
     unfolding first_inside inside_count

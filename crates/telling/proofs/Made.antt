@@ -1,4 +1,5 @@
 -- A list that was made in the words that it has here holds each product once, and few enough. Assumes nothing.
+use Rattle.std.specs.Prelude.{Ok}
 use Prim.Native.Nat.{ℕ, ◌≤◌}
 use native.Mathlib.Omega.{arith}
 use mathlib.Core.List.{List, []}
@@ -10,7 +11,6 @@ use lib.IntN.{ℤ}
 use lib.ListN.{length}
 use Rattle.ground.proofs.Counting.{first_kept}
 use Rattle.rules.specs.declared.Window.{Window}
-use Rattle.rules.specs.declared.Written.TheVariants.{Wrote}
 use Rattle.rules.specs.Choices.{expansion}
 use Rattle.rules.specs.ListCalls.{window_refusal, choices_refusal, zone_list, make_refusal, ListMade}
 use Rattle.rules.specs.ListWords.{product_count}
@@ -25,12 +25,12 @@ use Rattle.laws.proofs.Words.{list_length}
 use Rattle.promises.specs.EachOnce.{EachOnce}
 use Rattle.promises.proofs.Buffers.{list_right}
 
-module _ {t : List ℤ} {w : Window} {before after : List ℕ} {n : ℕ} (made : ListMade t w before after (Wrote n)) where
+module _ {t : List ℤ} {w : Window} {before after : List ℕ} {n : ℕ} (made : ListMade t w before after (Ok n)) where
   fine : make_refusal t w (length before) ≡ none
   fine = (wrote_none (make_refusal t w (length before)) (length (zone_list t w)) n made.answer).0
 
   pub made_once : EachOnce t w after
-  made_once = list_right t w before after (Wrote n) made fine
+  made_once = list_right t w before after (Ok n) made fine
 
   pub made_few : length before ≡ 131080 → product_count after ≤ 65536
   unfolding zone_list

@@ -1,4 +1,5 @@
 -- What the call of a picture answers, from the rules that were kept or broken on the way. Assumes nothing.
+use Rattle.std.specs.Prelude.{Ok, Err}
 use Prim.Native.Nat.{ℕ, ◌<◌, ◌≤◌}
 use mathlib.Core.Bool.{true}
 use mathlib.Core.List.{List, [], ◌∷◌}
@@ -13,8 +14,6 @@ use Rattle.ground.proofs.Counting.{first_broken, first_passed, first_kept}
 use Rattle.rules.specs.declared.Axis.TheVariants.{Column, Code}
 use Rattle.rules.specs.declared.Rectangle.{Rectangle}
 use Rattle.rules.specs.declared.Refusal.{Refusal}
-use Rattle.rules.specs.declared.Written.{Written}
-use Rattle.rules.specs.declared.Written.TheVariants.{Wrote, Refused}
 use Rattle.rules.specs.Boxes.{Box}
 use Rattle.rules.specs.ListCalls.{accept_refusal, waterfall, waterfall_refusal, PictureDrawn}
 use Rattle.rules.specs.ListInside.{inside_list}
@@ -32,6 +31,7 @@ use Rattle.laws.proofs.Rectangles.{drawable, up_in, down_in}
 use Rattle.laws.proofs.Soundness.{unless_kept}
 use Rattle.says.specs.Checks.{Accepted}
 use Rattle.waterfall.specs.Drawing.{shape_refusal}
+use Rattle.rules.specs.Told.{Written}
 
 -- where nothing is refused of it, the rectangle is right and there is room
 pub shape_kept : (window : Box) (q : Rectangle) (room : ℕ) → shape_refusal window q room ≡ none → Drawable window q × (picture_words q ≤ room)
@@ -65,7 +65,7 @@ module _ (t : List ℤ) (list : List ℕ) (q : Rectangle) (before : List ℤ) wh
   by_left : {after : List ℤ} {r : Written} → Left rule (picture_words q) words before after r → Outcome after r
   by_left L = record { answer = L.answer; buffer = L.buffer }
 
-  pub not_accepted : {r : Refusal} → accept_refusal t list ≡ some r → Outcome before (Refused r)
+  pub not_accepted : {r : Refusal} → accept_refusal t list ≡ some r → Outcome before (Err r)
   not_accepted h = by_left (as_it_was rule (picture_words q) words before (first_broken (accept_refusal t list) shape h))
 
   words_length : length words ≡ picture_words q
@@ -76,8 +76,8 @@ module _ (t : List ℤ) (list : List ℕ) (q : Rectangle) (before : List ℤ) wh
     past_accept : rule ≡ shape_refusal (list_window list) q (length before)
     past_accept = first_passed (accept_refusal t list) shape A.accepts
 
-    pub shape_wrong : {r : Refusal} → shape_refusal (list_window list) q (length before) ≡ some r → Outcome before (Refused r)
+    pub shape_wrong : {r : Refusal} → shape_refusal (list_window list) q (length before) ≡ some r → Outcome before (Err r)
     shape_wrong h = by_left (as_it_was rule (picture_words q) words before (past_accept ∙ h))
 
-    pub written : shape_refusal (list_window list) q (length before) ≡ none → {after : List ℤ} → after ≡ sets before 0 words → Outcome after (Wrote (picture_words q))
+    pub written : shape_refusal (list_window list) q (length before) ≡ none → {after : List ℤ} → after ≡ sets before 0 words → Outcome after (Ok (picture_words q))
     written right is = by_left (at_its_start rule (picture_words q) words before (past_accept ∙ right) words_length (shape_kept (list_window list) q (length before) right).1 is)

@@ -1,5 +1,6 @@
 -- Nothing is lost on the way to C: from the three numbers C reads the outcome back, so no two outcomes of a call become the same three numbers.
 -- Assumes nothing.
+use Rattle.std.specs.Prelude.{Ok, Err, None, true, false}
 use Prim.Native.Nat.{ℕ, zero, suc, ◌≤◌}
 use native.Mathlib.Omega.{arith}
 use mathlib.Core.List.{List}
@@ -8,19 +9,11 @@ use lib.Dec.{eqb, eqb-suc-zero}
 use lib.IntN.{ℤ}
 use Rattle.std.specs.Prelude.{if◌then◌else◌}
 use Rattle.rules.specs.declared.Refusal.{Refusal}
-use Rattle.rules.specs.declared.Checked.{Checked}
-use Rattle.rules.specs.declared.Checked.TheVariants as checked
-use Rattle.rules.specs.declared.Located.{Located}
-use Rattle.rules.specs.declared.Located.TheVariants as located
 use Rattle.rules.specs.declared.Place.{Place}
 use Rattle.rules.specs.declared.Point.{Point}
-use Rattle.rules.specs.declared.Searched.{Searched}
-use Rattle.rules.specs.declared.Searched.TheVariants as searched
 use Rattle.rules.specs.declared.Rectangle.{Rectangle}
 use Rattle.rules.specs.declared.Window.{Window}
-use Rattle.rules.specs.declared.Written.{Written}
-use Rattle.rules.specs.declared.Written.TheVariants as written
-use Rattle.rules.specs.Told.{Told, refused, told_checked, told_located, told_searched, told_written}
+use Rattle.rules.specs.Told.{Checked, Located, Searched, Written, Told, refused, told_checked, told_located, told_searched, told_written}
 use Rattle.rules.specs.TreeCalls.{TableChecked, TreeLocated, TreeSearched}
 use Rattle.rules.specs.ListCalls.{ListMade, ListLocated, ListSearched, ScreenSearched, PictureDrawn}
 use Rattle.rules.specs.RewriteCall.{TreeRewritten}
@@ -42,22 +35,22 @@ refused_back : {Outcome : Type 0} (refusing : Refusal → Outcome) (q : Refusal)
 refused_back refusing q fine l = not_zero q.number fine (refusing q) l.0
 
 checked_back : (r : Checked) → Possible (told_checked r) → read_checked (answer_of (told_checked r)) ≡ r
-checked_back checked.Sound l = refl
-checked_back (checked.Refused q) l = refused_back checked.Refused q _ l
+checked_back (Ok tt) l = refl
+checked_back (Err q) l = refused_back Err q _ l
 
 located_back : (r : Located) → Possible (told_located r) → read_located (answer_of (told_located r)) ≡ r
-located_back located.Outside l = refl
-located_back located.Inside l = refl
-located_back (located.Refused q) l = refused_back located.Refused q _ l
+located_back (Ok false) l = refl
+located_back (Ok true) l = refl
+located_back (Err q) l = refused_back Err q _ l
 
 searched_back : (r : Searched) → Possible (told_searched r) → read_searched (answer_of (told_searched r)) ≡ r
-searched_back searched.Clear l = refl
-searched_back (searched.Hit first count) l = not_zero count searched.Clear (searched.Hit first count) l.1
-searched_back (searched.Refused q) l = refused_back searched.Refused q _ l
+searched_back (Ok None) l = refl
+searched_back (searched.Hit first count) l = not_zero count (Ok None) (searched.Hit first count) l.1
+searched_back (Err q) l = refused_back Err q _ l
 
 written_back : (r : Written) → Possible (told_written r) → read_written (answer_of (told_written r)) ≡ r
-written_back (written.Wrote n) l = refl
-written_back (written.Refused q) l = refused_back written.Refused q _ l
+written_back (Ok n) l = refl
+written_back (Err q) l = refused_back Err q _ l
 
 -- ---- so each call is readable from C
 

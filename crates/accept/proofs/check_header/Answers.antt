@@ -1,15 +1,33 @@
-use Rattle.accept.proofs.Checks.{header_by}
+use Rattle.rules.specs.declared.Axis.TheVariants.{Column, Code, Frame}
+use Rattle.rules.specs.ListFaults.{bounds_refusals}
+use Rattle.laws.proofs.Telling.{alone}
+use Rattle.laws.proofs.Turns.{first_broken, first_kept_on, part_broken, part_kept}
 use Rattle.accept.proofs.check_header.Goals as goal
+
+pub returns-in_err-check_count : goal.returns-in_err-check_count
+returns-in_err-check_count c = first_broken _ _ c.from_residual.ensures.1 c.in_err-check_count.ensures
+
+pub returns-in_err-check_bounds : goal.returns-in_err-check_bounds
+returns-in_err-check_bounds c =
+    first_kept_on _ _ c.in_ok-check_count.ensures
+    (part_broken (bounds_refusals c.args.list.now Column) _ c.from_residual-in_err-check_bounds.ensures.1 c.in_err-check_bounds.ensures)
+
+pub returns-in_err-check_bounds-2 : goal.returns-in_err-check_bounds-2
+returns-in_err-check_bounds-2 c =
+    first_kept_on _ _ c.in_ok-check_count.ensures
+    (part_kept (bounds_refusals c.args.list.now Column) _ c.in_ok-check_bounds.ensures
+    (part_broken (bounds_refusals c.args.list.now Code) _ c.from_residual-in_err-check_bounds-2.ensures.1 c.in_err-check_bounds-2.ensures))
+
+pub returns-in_err-check_bounds-3 : goal.returns-in_err-check_bounds-3
+returns-in_err-check_bounds-3 c =
+    first_kept_on _ _ c.in_ok-check_count.ensures
+    (part_kept (bounds_refusals c.args.list.now Column) _ c.in_ok-check_bounds.ensures
+    (part_kept (bounds_refusals c.args.list.now Code) _ c.in_ok-check_bounds-2.ensures
+    (part_broken (bounds_refusals c.args.list.now Frame) _ c.from_residual-in_err-check_bounds-3.ensures.1 c.in_err-check_bounds-3.ensures)))
 
 pub returns : goal.returns
 returns c =
-    let at_check_bounds3 = c.before.before.before.before in
-    let a = at_check_bounds3.before in
-    let at_check_bounds2 = a.before in
-    let at_first_of = at_check_bounds2.before in
-    let at_check_primitives = at_first_of.before in
-    let at_check_bounds = at_check_primitives.before in
-    header_by at_check_bounds.args.list.now
-    at_check_bounds.check_bounds.ensures at_check_primitives.check_primitives.ensures at_first_of.first_of-frames.ensures
-    at_check_bounds2.check_bounds-2.ensures a.first_of-codes.ensures
-    at_check_bounds3.check_bounds-3.ensures c.first_of-columns.ensures c.check_count.ensures c.first_of.ensures
+    first_kept_on _ _ c.in_ok-check_count.ensures
+    (part_kept (bounds_refusals c.args.list.now Column) _ c.in_ok-check_bounds.ensures
+    (part_kept (bounds_refusals c.args.list.now Code) _ c.in_ok-check_bounds-2.ensures
+    (part_kept (bounds_refusals c.args.list.now Frame) _ c.in_ok-check_bounds-3.ensures (alone _ c.check_primitives.ensures))))

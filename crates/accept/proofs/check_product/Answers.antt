@@ -1,9 +1,15 @@
-use Rattle.accept.proofs.Checks.{product_by}
+use mathlib.Core.Path.{◌∙◌}
+use Rattle.laws.proofs.Telling.{alone}
+use Rattle.laws.proofs.Turns.{first_broken, first_kept_on}
+use Rattle.accept.proofs.Checks.{plain_by, cuts_by}
 use Rattle.accept.proofs.check_product.Goals as goal
+
+pub returns-in_err-refuse_if : goal.returns-in_err-refuse_if
+returns-in_err-refuse_if c =
+    first_broken _ _ c.from_residual.ensures.1
+    (c.in_err-refuse_if.ensures ∙ plain_by c.args.list.now c.args.k c.args.all c.requires.all_value c.product_at-c.ensures)
 
 pub returns : goal.returns
 returns c =
-    let d = c.before.before.before.before.before in
-    let p = d.before.before.before in
-    let s = p.before.before in
-    product_by s.args.list.now s.args.k s.args.all s.requires.all_value p.product_at-c.ensures d.refuse_if-plain.ensures c.refuse_if-cuts.ensures c.first_of.ensures
+    first_kept_on _ _ (c.in_ok-refuse_if.ensures ∙ plain_by c.args.list.now c.args.k c.args.all c.requires.all_value c.product_at-c.ensures)
+    (alone _ (c.refuse_if-2.ensures ∙ cuts_by c.args.list.now c.args.k c.args.all c.requires.all_value c.product_at-c.ensures))

@@ -12,7 +12,4 @@ abbrev pub rule : List ℕ → ℕ → Option Refusal
 rule list k = first_of (product_refusals list k)
 
 abbrev pub invariant-loop-k : goal.invariant-loop-k
-invariant-loop-k l = (l.k ≤ l.products) × (rulings (rule l.list) 0 l.products ≡ rulings (rule l.list) l.k l.products)
-
-abbrev pub decreases-loop-k : goal.decreases-loop-k
-decreases-loop-k l = l.products - l.k
+invariant-loop-k l = rulings (rule l.list) 0 l.products ≡ rulings (rule l.list) l.k l.products

@@ -1,16 +1,9 @@
-use Prim.Native.Nat.{◌+◌}
-use mathlib.Core.Bool.{◌||◌}
-use lib.Dec.{ltb}
-use Rattle.rules.specs.ListWords.{word}
-use Rattle.rules.specs.Refusals.{refuse_if}
-use Rattle.laws.proofs.Telling.{one_two}
+use Rattle.laws.proofs.Telling.{alone}
+use Rattle.laws.proofs.Turns.{first_broken, first_kept_on}
 use Rattle.accept.proofs.check_words.Goals as goal
 
+pub returns-in_err-refuse_if : goal.returns-in_err-refuse_if
+returns-in_err-refuse_if c = first_broken _ _ c.from_residual.ensures.1 c.in_err-refuse_if.ensures
+
 pub returns : goal.returns
-returns c =
-    let at_refuse_if = c.before.before.before in
-    let s = at_refuse_if.before.before.before.before in
-    let lo = word s.args.list.now s.args.i in
-    let hi = word s.args.list.now (s.args.i + 1) in
-    one_two (refuse_if (ltb s.args.most lo) 9 s.args.i) (refuse_if (ltb s.args.most hi || ltb hi lo) 9 (s.args.i + 1))
-    at_refuse_if.refuse_if.ensures c.refuse_if-2.ensures c.first_of.ensures
+returns c = first_kept_on _ _ c.in_ok-refuse_if.ensures (alone _ c.refuse_if-2.ensures)

@@ -2,6 +2,7 @@ use native.Mathlib.Omega.{arith}
 use mathlib.Core.Path.{refl, sym, ap, ◌∙◌}
 use lib.ListN.{length}
 use Rattle.ground.proofs.Counting.{kept, broken, all_kept}
+use Rattle.rules.specs.declared.Rule.TheVariants as rule
 use Rattle.rules.specs.Boxes.{holds, window_box}
 use Rattle.rules.specs.Refusals.{refuse_unless}
 use Rattle.laws.specs.Checking.{checked_by}
@@ -23,7 +24,7 @@ returns-then-not-in_window c =
     let r = rule s.args.w s.args.samples.now s.args.place in
     let out = sym (q.in_window.ensures ∙ ap (holds (window_box s.args.w)) p.point_at.ensures.value) ∙ c.if-not-in_window.true in
     c.refused.ensures
-    ∙ sym (ap checked_by (l.loop-k.invariant.1 ∙ broken r l.loop-k.k (length s.args.samples.now) p.loop-k-test.true (ap (λ b. refuse_unless b 10 l.loop-k.k) out)))
+    ∙ sym (ap checked_by (l.loop-k.invariant.1 ∙ broken r l.loop-k.k (length s.args.samples.now) p.loop-k-test.true (ap (λ b. refuse_unless b rule.Outside l.loop-k.k) out)))
 
 pub overflow_add-k : goal.overflow_add-k
 overflow_add-k c = omega arith
@@ -39,7 +40,7 @@ loop-k-preserved c =
     let s = l.before in
     let r = rule s.args.w s.args.samples.now s.args.place in
     let within_it = sym (q.in_window.ensures ∙ ap (holds (window_box s.args.w)) p.point_at.ensures.value) ∙ c.if-not-in_window.false in
-    (omega arith, l.loop-k.invariant.1 ∙ kept r l.loop-k.k (length s.args.samples.now) p.loop-k-test.true (ap (λ b. refuse_unless b 10 l.loop-k.k) within_it))
+    (omega arith, l.loop-k.invariant.1 ∙ kept r l.loop-k.k (length s.args.samples.now) p.loop-k-test.true (ap (λ b. refuse_unless b rule.Outside l.loop-k.k) within_it))
 
 pub returns : goal.returns
 returns c =

@@ -1,17 +1,13 @@
-use mathlib.Core.Path.{sym, ◌∙◌}
-use Rattle.rules.specs.Verdict.{table_refusal}
+use Rattle.rules.specs.ListCalls.{ListMade}
 use Rattle.laws.proofs.Telling.{went_on, stopped}
+use Rattle.laws.proofs.Turns.{on_exit}
 use Rattle.list.proofs.Calls.{made_table}
 use Rattle.list.proofs.make_list.Goals as goal
 
 pub make_in-requires : goal.make_in-requires
-make_in-requires c =
-    let at_check = c.before.before in
-    let s = at_check.before.before in
-    went_on (table_refusal s.args.table.now) (sym c.in-Sound.is ∙ at_check.check-checked.ensures)
+make_in-requires c = went_on _ c.in_ok-check.ensures
 
-pub returns-in-Refused : goal.returns-in-Refused
-returns-in-Refused c =
-    let at_check = c.before.before in
-    let s = at_check.before.before in
-    made_table s.args.table.now s.args.w s.args.list.now (stopped (table_refusal s.args.table.now) (sym c.in-Refused.is ∙ at_check.check-checked.ensures))
+pub returns-in_err-check : goal.returns-in_err-check
+returns-in_err-check c =
+    on_exit (ListMade c.args.table.now c.args.w c.args.list.now c.args.list.now) c.from_residual.ensures.1
+    (made_table c.args.table.now c.args.w c.args.list.now (stopped _ c.in_err-check.ensures))

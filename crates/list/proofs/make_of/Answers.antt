@@ -1,4 +1,5 @@
 -- The room, then the list. Assumes nothing.
+use Rattle.std.specs.Prelude.{Err}
 use Prim.Native.Nat.{ℕ, ◌≤◌, ◌<◌}
 use native.Mathlib.Omega.{arith}
 use mathlib.Core.Bool.{true}
@@ -6,6 +7,7 @@ use mathlib.Core.List.{List, flat_map}
 use mathlib.Core.Path.{◌≡◌, sym, ap, subst, ◌∙◌}
 use lib.ListN.{length, length-replicate}
 use lib.Seq.{sets}
+use Rattle.rules.specs.declared.Rule.TheVariants as rule
 use Rattle.rules.specs.Choices.{expansion}
 use Rattle.rules.specs.ListCalls.{most_choices, zone_list, ListMade}
 use Rattle.rules.specs.ListWords.{header_words, words_of, place_of}
@@ -13,7 +15,6 @@ use Rattle.rules.specs.Products.{products}
 use Rattle.rules.specs.Table.{primitives}
 use Rattle.rules.specs.Tree.{tree_of}
 use Rattle.rules.specs.declared.Product.{Product}
-use Rattle.rules.specs.declared.Written.TheVariants as written
 use Rattle.laws.proofs.Soundness.{table_sound}
 use Rattle.laws.specs.Sound.{Sound}
 use Rattle.walk.proofs.Tracks.{put_length}
@@ -72,12 +73,12 @@ measure-needed-requires c =
 
 pub returns-then-list-needed : goal.returns-then-list-needed
 returns-then-list-needed c =
-    let at_measure = c.before.before.before.before in
+    let at_measure = c.before.before.before.before.before in
     let m = at_measure.before.before.before.before in
     let s = start m in
     let same = at_measure.measure-needed.ensures.1 in
     let short : length s.args.list.now < at_measure.measure-needed.result = omega (arith, c.if-list-needed.true, ap length same) in
-    subst (λ (l : List ℕ). ListMade s.args.table.now s.args.w s.args.list.now l (written.Refused (record { number = 8; value = at_measure.measure-needed.result }))) (sym same)
+    subst (λ (l : List ℕ). ListMade s.args.table.now s.args.w s.args.list.now l (Err (record { rule = rule.Room; value = at_measure.measure-needed.result }))) (sym same)
     (made_room s.args.table.now s.args.w s.args.list.now s.requires.table_value.0 s.requires.table_value.1 (not_many s) (at_measure.measure-needed.ensures.0.exact short ∙ all_words m) short)
 
 -- where the room is not too small, the list has room

@@ -3,7 +3,6 @@ use mathlib.Core.List.{List}
 use mathlib.Core.Path.{◌≡◌}
 use lib.IntN.{ℤ}
 use lib.ListN.{length, replicate, length-replicate}
-use Rattle.rules.specs.declared.Written.{Written}
 use Rattle.rules.specs.ListCalls.{ListMade}
 use Rattle.rules.specs.Boxes.{full_range}
 use Rattle.number.proofs.Writing.{put_same}
@@ -12,6 +11,7 @@ use Rattle.pipe.proofs.list_table.Lts as lts
 use Rattle.pipe.proofs.list_table.Tie as tie
 use Rattle.pipe.proofs.list_table.Reads as reads
 use Rattle.pipe.proofs.list_table.Goals as goal
+use Rattle.rules.specs.Told.{Written}
 
 abbrev After-make_list : Type 0
 After-make_list = lts.After-make_list tie.the-claims reads.Pre reads.Post tie.handed_clauses

@@ -2,7 +2,6 @@ use mathlib.Core.List.{List}
 use mathlib.Core.Path.{◌≡◌, subst}
 use lib.IntN.{ℤ, pos}
 use lib.ListN.{length, replicate, length-replicate}
-use Rattle.rules.specs.declared.Written.{Written}
 use Rattle.rules.specs.TextCalls.{TextRead}
 use Rattle.laws.proofs.Texts.{read_fits}
 use Rattle.pipe.proofs.Read.{text_refused, text_listed}
@@ -10,6 +9,7 @@ use Rattle.pipe.proofs.list_zone.Lts as lts
 use Rattle.pipe.proofs.list_zone.Tie as tie
 use Rattle.pipe.proofs.list_zone.Reads as reads
 use Rattle.pipe.proofs.list_zone.Goals as goal
+use Rattle.rules.specs.Told.{Written}
 
 abbrev After-read_text : Type 0
 After-read_text = lts.After-read_text tie.the-claims reads.Pre reads.Post tie.handed_clauses

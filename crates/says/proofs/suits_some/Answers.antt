@@ -3,45 +3,38 @@ use mathlib.Core.Path.{refl, sym, ap, ◌∙◌}
 use Rattle.ground.proofs.Counting.{any_yes, any_no, any_done, rest_all}
 use Rattle.ground.specs.Lists.{any_of}
 use Rattle.rules.specs.ListWords.{product_count, product_at}
+use Rattle.rules.specs.declared.Product.{Product}
+use mathlib.Core.Bool.{Bool}
+use mathlib.Core.List.{List}
+use mathlib.Core.Path.{◌≡◌}
+use Prim.Native.Nat.{ℕ}
 use Rattle.laws.specs.Held.{suits}
 use Rattle.says.proofs.suits_some.Invariants.{test}
 use Rattle.says.proofs.suits_some.Goals as goal
 
-pub bounds-list-0 : goal.bounds-list-0
-bounds-list-0 c = omega (arith, c.requires.long)
+-- product k as it was tested
+module _ (list : List ℕ) (set k : ℕ) {p : Product} (is : p ≡ product_at list k) {answer : Bool} (told : answer ≡ suits set p) where
+  tested : answer ≡ test list set k
+  tested = told ∙ ap (suits set) is
 
 pub loop-k-init : goal.loop-k-init
-loop-k-init c = (omega arith, refl)
-
-pub product_at-requires : goal.product_at-requires
-product_at-requires c = omega (arith, c.requires.header.room, c.loop-k-test.true)
+loop-k-init c = refl
 
 pub returns-then-suits : goal.returns-then-suits
 returns-then-suits c =
-    let p = c.before.before.before in
-    let l = p.before.before in
-    let s = l.before.before.before in
-    let yes_there = sym (c.suits.ensures ∙ ap (suits s.args.set) p.product_at.ensures) ∙ c.if-suits.true in
-    sym (ap (any_of (test s.args.list.now s.args.set)) (sym (rest_all (product_count s.args.list.now)))
-    ∙ l.loop-k.invariant.1 ∙ any_yes (test s.args.list.now s.args.set) l.loop-k.k (product_count s.args.list.now) p.loop-k-test.true yes_there)
-
-pub overflow_add-k : goal.overflow_add-k
-overflow_add-k c = omega arith
-
-pub loop-k-smaller : goal.loop-k-smaller
-loop-k-smaller c = omega arith
+    let n = product_count c.args.list.now in
+    let test = test c.args.list.now c.args.set in
+    sym (ap (any_of test) (sym (rest_all n)) ∙ c.loop-k.invariant
+    ∙ any_yes test c.loop-k.k n c.loop-k-test.true (sym (tested c.args.list.now c.args.set c.loop-k.k c.product_at.ensures c.suits.ensures) ∙ c.if-suits.true))
 
 pub loop-k-preserved : goal.loop-k-preserved
 loop-k-preserved c =
-    let p = c.before.before.before in
-    let l = p.before.before in
-    let s = l.before.before.before in
-    let not_there = sym (c.suits.ensures ∙ ap (suits s.args.set) p.product_at.ensures) ∙ c.if-suits.false in
-    (omega arith, l.loop-k.invariant.1 ∙ any_no (test s.args.list.now s.args.set) l.loop-k.k (product_count s.args.list.now) p.loop-k-test.true not_there)
+    c.loop-k.invariant
+    ∙ any_no (test c.args.list.now c.args.set) c.loop-k.k (product_count c.args.list.now) c.loop-k-test.true
+    (sym (tested c.args.list.now c.args.set c.loop-k.k c.product_at.ensures c.suits.ensures) ∙ c.if-suits.false)
 
 pub returns : goal.returns
 returns c =
-    let l = c.before.before in
-    let s = l.before.before.before in
-    let n = product_count s.args.list.now in
-    sym (ap (any_of (test s.args.list.now s.args.set)) (sym (rest_all n)) ∙ l.loop-k.invariant.1 ∙ any_done (test s.args.list.now s.args.set) l.loop-k.k n c.loop-k-test.false)
+    let n = product_count c.args.list.now in
+    let test = test c.args.list.now c.args.set in
+    sym (ap (any_of test) (sym (rest_all n)) ∙ c.loop-k.invariant ∙ any_done test c.loop-k.k n c.loop-k-test.false)

@@ -11,7 +11,4 @@ abbrev pub test : List ℕ → ℕ → ℕ → Bool
 test list set k = suits set (product_at list k)
 
 abbrev pub invariant-loop-k : goal.invariant-loop-k
-invariant-loop-k l = (l.k ≤ product_count l.list) × (any_of (test l.list l.set) (rest 0 (product_count l.list)) ≡ any_of (test l.list l.set) (rest l.k (product_count l.list)))
-
-abbrev pub decreases-loop-k : goal.decreases-loop-k
-decreases-loop-k l = product_count l.list - l.k
+invariant-loop-k l = any_of (test l.list l.set) (rest 0 (product_count l.list)) ≡ any_of (test l.list l.set) (rest l.k (product_count l.list))

@@ -3,7 +3,4 @@ use Rattle.says.specs.Saids.{Said}
 use Rattle.says.proofs.tree_says.Given as goal
 
 abbrev pub invariant-loop-row : goal.invariant-loop-row
-invariant-loop-row l = (l.row ≤ l.rows) × Said l.table l.set l.row l.left l.answers
-
-abbrev pub decreases-loop-row : goal.decreases-loop-row
-decreases-loop-row l = l.rows - l.row
+invariant-loop-row l = Said l.table l.set l.row l.left l.answers

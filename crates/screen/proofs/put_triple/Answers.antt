@@ -3,9 +3,8 @@ use native.Mathlib.Omega.{arith}
 use mathlib.Core.List.{[], ◌∷◌}
 use mathlib.Core.Path.{◌≡◌, sym, ap, subst, ◌∙◌}
 use lib.Seq.{sets}
-use Rattle.rules.specs.declared.Searched.{Searched}
 use Rattle.rules.specs.Screen.{triple_of}
-use Rattle.rules.specs.Told.{told_searched}
+use Rattle.rules.specs.Told.{Searched, told_searched}
 use Rattle.screen.specs.Triples.{Small}
 use Rattle.screen.proofs.put_triple.Lts as lts
 use Rattle.screen.proofs.put_triple.Tie as tie

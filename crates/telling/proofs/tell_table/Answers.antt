@@ -1,13 +1,13 @@
 use Prim.Native.Nat.{ℕ}
 use mathlib.Core.Path.{◌≡◌, subst}
 use lib.ListN.{replicate, length-replicate}
-use Rattle.rules.specs.declared.Written.{Written}
 use Rattle.rules.specs.ListCalls.{ListMade}
 use Rattle.telling.proofs.Made.{made_once, made_few}
 use Rattle.telling.proofs.tell_table.Lts as lts
 use Rattle.telling.proofs.tell_table.Tie as tie
 use Rattle.telling.proofs.tell_table.Reads as reads
 use Rattle.telling.proofs.tell_table.Goals as goal
+use Rattle.rules.specs.Told.{Written}
 
 abbrev After-make_list : Type 0
 After-make_list = lts.After-make_list tie.the-claims reads.Pre reads.Post tie.handed_clauses

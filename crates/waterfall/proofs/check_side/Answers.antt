@@ -6,6 +6,7 @@ use lib.Signed.{le_z, lt_z}
 use mir.Syntax.{w32, w64}
 use mir.ValLaws.{to_z-of_z}
 use Rattle.ground.proofs.Signed.{read}
+use Rattle.rules.specs.declared.Rule.TheVariants as rule
 use Rattle.rules.specs.Ranges.{within}
 use Rattle.rules.specs.Refusals.{refuse_unless}
 use Rattle.rules.specs.Waterfall.{most_side}
@@ -28,5 +29,5 @@ returns c =
     let lo_in = low.between.ensures ∙ (λ i. within (record { lo = least i; hi = most i }) (lo i)) in
     let hi_in = high.between-2.ensures ∙ (λ i. within (record { lo = least i; hi = most i }) (hi i)) in
     let over = read w64 far.above.type_inv far.above.ensures ∙ (λ i. hi i -ℤ lo i) in
-    one_two _ _ (first.refuse_unless.ensures ∙ ap (λ (t : Bool). checked_by (refuse_unless t 6 s.args.i)) lo_in)
-    (second.refuse_unless-2.ensures ∙ (λ i. checked_by (refuse_unless (hi_in i && (le_z (lo i) (hi i) && lt_z (over i) (pos most_side))) 6 (s.args.i + 1)))) c.first_of.ensures
+    one_two _ _ (first.refuse_unless.ensures ∙ ap (λ (t : Bool). checked_by (refuse_unless t rule.Bound s.args.i)) lo_in)
+    (second.refuse_unless-2.ensures ∙ (λ i. checked_by (refuse_unless (hi_in i && (le_z (lo i) (hi i) && lt_z (over i) (pos most_side))) rule.Bound (s.args.i + 1)))) c.first_of.ensures

@@ -1,8 +1,8 @@
+use Rattle.std.specs.Prelude.{Ok}
 use mathlib.Core.Option.{none}
 use mathlib.Core.Path.{◌≡◌, sym, subst, ◌∙◌}
 use Prim.Native.Nat.{ℕ}
 use lib.ListN.{length}
-use Rattle.rules.specs.declared.Written.TheVariants.{Wrote}
 use Rattle.rules.specs.ListCalls.{PictureDrawn}
 use Rattle.rules.specs.ListWords.{list_window}
 use Rattle.laws.proofs.SoundLists.{list_sound}
@@ -61,5 +61,5 @@ returns-in-Sound c =
     let list = s.args.list.now in
     let q = s.args.q in
     let before = s.args.picture.now in
-    subst (λ (n : ℕ). PictureDrawn t list q before put.put_picture.new.picture (Wrote n)) (sym c.words_of.ensures)
+    subst (λ (n : ℕ). PictureDrawn t list q before put.put_picture.new.picture (Ok n)) (sym c.words_of.ensures)
     (written t list q before s.requires (kept told) put.put_picture.ensures)

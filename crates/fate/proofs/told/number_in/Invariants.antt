@@ -7,7 +7,4 @@ use Rattle.fate.proofs.told.number_in.Given as goal
 
 -- none of the places before this one has the product
 abbrev pub invariant-loop-k : goal.invariant-loop-k
-invariant-loop-k l = (l.k ≤ l.count) × ((i : ℕ) → i < l.k → same (product_at l.list i) l.c ≡ false)
-
-abbrev pub decreases-loop-k : goal.decreases-loop-k
-decreases-loop-k l = l.count - l.k
+invariant-loop-k l = (i : ℕ) → i < l.k → same (product_at l.list i) l.c ≡ false

@@ -1,90 +1,67 @@
 use native.Mathlib.Omega.{arith}
 use mathlib.Core.Bool.{true}
+use mathlib.Core.List.{List}
 use mathlib.Core.Path.{◌≡◌, sym, ap, ◌∙◌}
+use Prim.Native.Nat.{ℕ}
+use lib.IntN.{ℤ}
+use Rattle.std.specs.Prelude.{Ok, Err}
+use Rattle.rules.specs.declared.Axis.{Axis}
 use Rattle.rules.specs.declared.Product.{Product}
+use Rattle.rules.specs.declared.Window.{Window}
 use Rattle.rules.specs.Table.{primitives}
 use Rattle.promises.specs.EachOnce.{choice, kept, made}
-use Rattle.fate.specs.declared.Fate.{Fate}
-use Rattle.fate.specs.declared.Fate.TheVariants.{Kept}
-use Rattle.fate.specs.Fates.{fate_in}
+use Rattle.fate.specs.Fates.{Fate, fate_in}
 use Rattle.fate.proofs.Fates.{kept_stays, dropped_gone}
 use Rattle.fate.proofs.FirstWays.{told_dropped, again_first, told_again, new_first, in_firsts, told_new}
-use Rattle.fate.proofs.told.tell_way.Lts as lts
-use Rattle.fate.proofs.told.tell_way.Tie as tie
-use Rattle.fate.proofs.told.tell_way.Reads as reads
 use Rattle.fate.proofs.told.tell_way.Goals as goal
 
-abbrev After-fate_in : Type 0
-After-fate_in = lts.After-fate_in tie.the-claims reads.Pre reads.Post tie.handed_clauses
-
-abbrev After-number_in : Type 0
-After-number_in = lts.After-number_in tie.the-claims reads.Pre reads.Post tie.handed_clauses
-
-abbrev Start : Type 0
-Start = lts.Start tie.the-claims reads.Pre reads.Post tie.handed_clauses
-
 -- the fate that was found is that of way k
-module _ (d : After-fate_in) where
-  found : {f : Fate} → d.fate_in-fate.result ≡ f
-      → let s = d.args in fate_in s.w (primitives s.table.now) (choice s.table.now s.k) ≡ f
-  found e =
-      let s = d.args in
-      sym (ap (fate_in s.w (primitives s.table.now)) d.way-chosen.ensures.0) ∙ sym d.fate_in-fate.ensures ∙ e
+module _ (t : List ℤ) (w : Window) (k : ℕ) {way : Product} (is_way : way ≡ choice t k) where
+  found : {f : Fate} → f ≡ fate_in w (primitives t) way → fate_in w (primitives t) (choice t k) ≡ f
+  found e = sym (ap (fate_in w (primitives t)) is_way) ∙ sym e
 
--- way k comes to a product, and its number was looked for
-module _ (m : After-number_in) where
-  abbrev start : Start
-  start = m.before.before.before.before.before.before
-
-  abbrev product : Product
-  product = m.in-Kept.c
-
-  is : fate_in start.args.w (primitives start.args.table.now) (choice start.args.table.now start.args.k) ≡ Kept product
-  is = found m.before.before m.in-Kept.is
-
-  comes : (kept start.args.table.now start.args.w start.args.k ≡ true) × (made start.args.table.now start.args.w start.args.k ≡ product)
-  comes = kept_stays start.args.w (primitives start.args.table.now) (choice start.args.table.now start.args.k) is
+  -- and a way that comes to a product
+  comes : {p : Product} → ◌≡◌ {A = Fate} (Ok p) (fate_in w (primitives t) way) → (kept t w k ≡ true) × (made t w k ≡ p)
+  comes e = kept_stays w (primitives t) (choice t k) (found e)
 
 pub returns-then-number-products : goal.returns-then-number-products
 returns-then-number-products c =
-    let m = c.before.before.before.before in
-    let at_fate_in = m.before.before in
-    let way = at_fate_in.way-chosen.ensures in
-    let T = (start m).requires.told_to in
-    let h = (start m).requires.k_bound in
-    let N = m.number_in-number.ensures in
-    let told = c.if-number-products.true in record {
-      remembered_2 = way.1;
-      chosen_value = (way.0, (is m, again_first T h (comes m).0 (comes m).1 N told));
-      told_to_2 = told_again T h (comes m).0 (comes m).1 N told;
+    let way = c.way-chosen.ensures in
+    let T = c.requires.told_so_far in
+    let h = c.requires.k_bound in
+    let N = c.number_in-number.ensures in
+    let told = c.if-number-products.true in
+    let p = comes c.args.table.now c.args.w c.args.k way.0 c.in-Ok.ensures in record {
+      remembered = way.1;
+      comes_to = (way.0, (found c.args.table.now c.args.w c.args.k way.0 c.in-Ok.ensures, again_first T h p.0 p.1 N told));
+      told_to = told_again T h p.0 p.1 N told;
     }
 
-pub bounds-firsts-number-in-Kept : goal.bounds-firsts-number-in-Kept
-bounds-firsts-number-in-Kept c =
-    let m = c.before.before.before in
-    let T = (start m).requires.told_to in
-    omega (arith, in_firsts T (start m).requires.k_bound (comes m).0 (comes m).1 m.number_in-number.ensures (omega arith), T.size)
+pub bounds-firsts-number-in-Ok : goal.bounds-firsts-number-in-Ok
+bounds-firsts-number-in-Ok c =
+    let T = c.requires.told_so_far in
+    let p = comes c.args.table.now c.args.w c.args.k c.way-chosen.ensures.0 c.in-Ok.ensures in
+    omega (arith, in_firsts T c.requires.k_bound p.0 p.1 c.number_in-number.ensures c.if-number-products.false, T.size)
 
-pub returns-in-Dropped : goal.returns-in-Dropped
-returns-in-Dropped c =
-    let d = c.before.before in
-    let s = d.before.before.before.before in
-    let gone = found d c.in-Dropped.is in
-    let dropped = dropped_gone s.args.w (primitives s.args.table.now) (choice s.args.table.now s.args.k) gone in record {
-      remembered_2 = d.way-chosen.ensures.1;
-      chosen_value = (d.way-chosen.ensures.0, gone);
-      told_to_2 = told_dropped s.requires.told_to dropped;
+pub returns-in-Err : goal.returns-in-Err
+returns-in-Err c =
+    let way = c.way-chosen.ensures in
+    let gone = found c.args.table.now c.args.w c.args.k way.0 c.in-Err.ensures in
+    let dropped = dropped_gone c.args.w (primitives c.args.table.now) (choice c.args.table.now c.args.k) gone in record {
+      remembered = way.1;
+      comes_to = (way.0, gone);
+      told_to = told_dropped c.requires.told_so_far dropped;
     }
 
 pub returns-else-number-products : goal.returns-else-number-products
 returns-else-number-products c =
-    let m = c.before.before.before in
-    let at_fate_in = m.before.before in
-    let way = at_fate_in.way-chosen.ensures in
-    let T = (start m).requires.told_to in
-    let h = (start m).requires.k_bound in
-    let N = m.number_in-number.ensures in record {
-      remembered_2 = way.1;
-      chosen_value = (way.0, (is m, new_first T h (comes m).0 (comes m).1 N (omega arith)));
-      told_to_2 = told_new T h (comes m).0 (comes m).1 N (omega arith);
+    let way = c.way-chosen.ensures in
+    let T = c.requires.told_so_far in
+    let h = c.requires.k_bound in
+    let N = c.number_in-number.ensures in
+    let new = c.if-number-products.false in
+    let p = comes c.args.table.now c.args.w c.args.k way.0 c.in-Ok.ensures in record {
+      remembered = way.1;
+      comes_to = (way.0, (found c.args.table.now c.args.w c.args.k way.0 c.in-Ok.ensures, new_first T h p.0 p.1 N new));
+      told_to = told_new T h p.0 p.1 N new;
     }
