@@ -110,7 +110,7 @@ put-requires-in-Node t c =
     let s = sizes l (c.in-Node.ensures T l) q (c.emit-end.ensures (right_of T) r) in
     let n = c.kind.ensures in record {
       room = omega (arith, c.requires.2);
-      are_words = are_three c.kind.result (c.emit-middle.result - 1) (c.emit-end.result - 1) (omega arith) (omega (arith, c.requires.3)) (omega (arith, c.requires.3));
+      are_words = are_three _ _ _ (omega arith) (omega (arith, c.requires.3)) (omega (arith, c.requires.3));
     }
 
 pub overflow_add-result-in-Node : goal.overflow_add-result-in-Node
