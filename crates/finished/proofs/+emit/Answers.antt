@@ -13,9 +13,6 @@ use Rattle.normal.proofs.Words.{top_primitive, top_node, lies_in, lies_left}
 use Rattle.finished.proofs.Laws.{rows_parts, rows_at, rowed_length, node_rowed, leaf_rowed, are_three, is_node, right_lies, sizes}
 use Rattle.finished.proofs.+emit.Goals as goal
 
-pub head-requires : goal.head-requires
-head-requires t c = (c.requires.0, c.requires.1)
-
 pub put-requires : goal.put-requires
 put-requires t c =
     let i = top_primitive c.requires.0 c.requires.1.small (c.in-Primitive.ensures c.requires.0 c.requires.1) in record {

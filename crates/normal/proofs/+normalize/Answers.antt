@@ -3,7 +3,7 @@ use Prim.Native.Nat.{ℕ, ◌+◌, ◌≤◌, ◌<◌}
 use native.Mathlib.Omega.{arith}
 use mathlib.Core.Bool.{true, false}
 use mathlib.Core.List.{List}
-use mathlib.Core.Path.{◌≡◌, refl, sym, ap, ◌∙◌}
+use mathlib.Core.Path.{◌≡◌, sym, ap, ◌∙◌}
 use borrow.Author.Rules.{rules}
 use lib.IntN.{ℤ}
 use lib.ListN.{length}
@@ -15,7 +15,7 @@ use Rattle.normal.specs.Prefix.{top, head, left_of, right_of, Lies}
 use Rattle.normal.specs.Held.{Held, Ready}
 use Rattle.normal.proofs.Words.{top_primitive, top_node, node_head, union_is, union_head, lies_in, held_lies}
 use Rattle.normal.proofs.Reading.{tree_at, lies_tree}
-use Rattle.normal.proofs.Whole.{Onward, onward_first, onward_ready, settled, left_before, left_after, left_ready, left_lower, left_grows, left_widens, left_done}
+use Rattle.normal.proofs.Whole.{Onward, onward_ready, settled, left_before, left_after, left_ready, left_lower, left_grows, left_widens, left_done}
 use Rattle.normal.proofs.Whole.{settled_few, settled_node, onward_next, onward_falls, normal_leaf, end_other, right_before, right_ready, right_lower, right_done}
 use Rattle.normal.proofs.+normalize.Goals as goal
 
@@ -26,15 +26,9 @@ is_node {o = o} T h n = node_head T o (top_node T (n T (held_lies h)))
 depth : {w : List ℤ} {at used t : ℕ} {a : List ℤ} {T : Form} {c : List ℤ} → Ready w at used a T c → high (tree_at w at) true ≡ t → high T true ≡ t
 depth r e = sym (ap (λ (T : Form). high T true) (lies_tree (held_lies r.held))) ∙ e
 
-pub head-requires : goal.head-requires
-head-requires t c = (c.requires.1, held_lies c.requires.3.held)
-
 pub returns-in_default : goal.returns-in_default
 returns-in_default t c = λ a T e r.
     let i = top_primitive T r.held.small (c.in_default.ensures T (held_lies r.held)) in normal_leaf (omega arith) r.held
-
-pub loop-start-init : goal.loop-start-init
-loop-start-init t c = (refl, λ a T e r k. onward_first r.held k)
 
 pub reduce-start-requires : goal.reduce-start-requires
 reduce-start-requires t c =

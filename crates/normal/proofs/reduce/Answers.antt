@@ -1,11 +1,8 @@
 -- Rewrites at the node until none fits: each lowers the weight of the tree. Assumes nothing.
-use mathlib.Core.Path.{refl, ◌∙◌}
+use mathlib.Core.Path.{◌∙◌}
 use Rattle.normal.proofs.Words.{held_lies}
-use Rattle.normal.proofs.Turns.{leads_here, ready_on, turn_on, turn_falls}
+use Rattle.normal.proofs.Turns.{ready_on, turn_on, turn_falls}
 use Rattle.normal.proofs.reduce.Goals as goal
-
-pub loop-m-init : goal.loop-m-init
-loop-m-init c = (refl, λ a T e r. record { tree = T; leads = leads_here T; held = r.held })
 
 pub rewrite-requires : goal.rewrite-requires
 rewrite-requires c =

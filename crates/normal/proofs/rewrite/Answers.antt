@@ -29,9 +29,6 @@ placed {at = at} {T = T} o r k n f =
     let e : 20 ≤ head T = omega (arith, is_cut o n) in
     record { ready = r; node = e; place = ap (λ (n : ℕ). at + 1 + n) (sym (f ∙ left_words_rows T r.held.small (omega arith))) }
 
-pub head-requires : goal.head-requires
-head-requires c = (c.requires.1, held_lies c.requires.3.held)
-
 pub returns-in_default : goal.returns-in_default
 returns-in_default c = λ a T e r.
     let i = top_primitive T r.held.small (c.in_default.ensures T (held_lies r.held)) in (still_low T (omega arith), r.held)
