@@ -1,20 +1,22 @@
--- Rows, one part of a tree after the other; and words that are 0. Assumes nothing.
+-- Rows, one part of a tree after the other. Assumes nothing.
 use Prim.Native.Nat.{ℕ, zero, suc, ◌+◌, ◌-◌, ◌*◌, ◌≤◌, ◌<◌}
-use mathlib.Core.List.{List, [], ◌∷◌, ◌++◌, append-nil}
-use mathlib.Core.Path.{◌≡◌, refl, sym, ap, ap₂, ◌∙◌}
-use native.Mathlib.Numerals.{add-one}
+use mathlib.Core.List.{List, [], ◌∷◌, ◌++◌}
+use mathlib.Core.Path.{◌≡◌, refl, sym, ap, ap₂, subst, ◌∙◌}
 use native.Mathlib.Omega.{arith}
 use lib.IntN.{ℤ, pos}
-use lib.ListN.{length, length-drop, length-replicate, drop, set, replicate}
-use lib.Seq.{sets, sets-eq, length-sets}
+use lib.ListN.{length}
+use lib.Seq.{sets, length-sets}
 use Rattle.ground.proofs.Writes.{sets_append}
 use Rattle.rules.specs.Form.{Form, leaf, ◌∪◌, ◌∩◌, ◌∖◌}
 use Rattle.rules.specs.TreeRows.{rows_in, rows_from}
-use Rattle.paper.proofs.Rows.{length_rows}
-use Rattle.normal.specs.Prefix.{head, left_of, right_of, Small, Lies}
+use Rattle.paper.proofs.Rows.{length_rows, some_rows}
+use Rattle.moves.specs.declared.Operation.{Operation}
+use Rattle.moves.specs.Moves.{operation_number, AreWords, IsWord}
+use Rattle.normal.specs.declared.Top.TheVariants.{Node}
+use Rattle.normal.specs.Prefix.{top, head, left_of, right_of, Small, Lies}
 use Rattle.normal.proofs.Reading.{tree_at, lies_tree}
-use Rattle.normal.proofs.Words.{parts_of, flat_leaf}
-use Rattle.finished.specs.Rows.{Rowed, zeros}
+use Rattle.normal.proofs.Words.{parts_of, flat_leaf, number_le, node_head, top_node, lies_right}
+use Rattle.finished.specs.Rows.{Rowed}
 
 -- the last row of a node
 abbrev own : ℕ → Form → List ℤ
@@ -75,35 +77,41 @@ leaf_rowed {row} {out} {done} {T} k e = record {
   written = e ∙ ap (λ (v : List ℤ). sets out (row * 3) v) (sym (rows_leaf row T k));
 }
 
--- ---- clearing
-replicate_more : (i : ℕ) (z : ℤ) → replicate (suc i) z ≡ replicate i z ++ (z ∷ [])
-replicate_more zero z = refl
-replicate_more (suc i) z = ap (λ (l : List ℤ). z ∷ l) (replicate_more i z)
+-- ---- three words of a row
+pub are_three : (a b c : ℕ) → IsWord a → IsWord b → IsWord c → AreWords (a ∷ b ∷ c ∷ [])
+are_three a b c p q r zero h = p
+are_three a b c p q r (suc zero) h = q
+are_three a b c p q r (suc (suc zero)) h = r
+are_three a b c p q r (suc (suc (suc i))) h = absurd (omega arith)
 
-pub no_zeros : (w : List ℤ) → sets w 0 (zeros 0) ≡ w
-unfolding zeros
-no_zeros w = refl
+-- ---- a node, and where the rows of its parts go
+module _ {w : List ℤ} {at : ℕ} {T : Form} {o : Operation} (l : Lies w at T) (n : Node o ≡ top T) where
+  pub is_node : 16 ≤ head T
+  is_node = node_head T o (top_node T n)
 
-pub clear_more : (w : List ℤ) (i : ℕ) → set (sets w 0 (zeros i)) i (pos 0) ≡ sets w 0 (zeros (i + 1))
-unfolding zeros
-clear_more w i =
-    sym (ap (λ (n : ℕ). sets w 0 (replicate n (pos 0))) (add-one i) ∙ ap (λ (l : List ℤ). sets w 0 l) (replicate_more i (pos 0))
-    ∙ sets_append w 0 (replicate i (pos 0)) (pos 0 ∷ []) ∙ ap (λ (n : ℕ). set (sets w 0 (replicate i (pos 0))) n (pos 0)) (omega (arith, length-replicate i (pos 0))))
+  module _ {out mid : List ℤ} {row m : ℕ} (p : Rowed out mid row (left_of T) m) where
+    pub right_lies : Lies w (at + 1 + (m - row)) (right_of T)
+    right_lies =
+        let e : at + 1 + (m - row) ≡ at + 1 + rows_in (left_of T) = omega (arith, p.ends) in
+        subst (λ (j : ℕ). Lies w j (right_of T)) (sym e) (lies_right l is_node)
 
-none_left : (n : ℕ) (l : List ℤ) → length l ≡ n - n → l ≡ []
-none_left n [] e = refl
-none_left n (x ∷ xs) e = absurd (omega arith)
+    -- the sizes, of the tree and its parts
+    pub record Sizes (fin : List ℤ) (e : ℕ) : Type 0 where
+      pub whole : rows_in T ≡ 1 + rows_in (left_of T) + rows_in (right_of T)
+      pub first : m ≡ row + rows_in (left_of T)
+      pub second : e ≡ m + rows_in (right_of T)
+      pub left_one : 1 ≤ rows_in (left_of T)
+      pub right_one : 1 ≤ rows_in (right_of T)
+      pub long : length fin ≡ length out
+      pub kind : operation_number o ≤ 21
 
-pub nothing_past : (w : List ℤ) → replicate (length w) (pos 0) ++ drop (length (replicate (length w) (pos 0))) w ≡ replicate (length w) (pos 0)
-nothing_past w =
-    ap (λ (l : List ℤ). replicate (length w) (pos 0) ++ l)
-    (ap (λ (n : ℕ). drop n w) (length-replicate (length w) (pos 0)) ∙ none_left (length w) (drop (length w) w) (length-drop (length w) w))
-    ∙ append-nil (replicate (length w) (pos 0))
-
--- cleared to its end
-pub clear_all : (w : List ℤ) → sets w 0 (zeros (length w)) ≡ replicate (length w) (pos 0)
-unfolding zeros
-clear_all w =
-    let Z : List ℤ = replicate (length w) (pos 0) in
-    let n : 0 + length Z ≡ length Z = omega arith in
-    sets-eq Z w 0 (omega (arith, length-replicate (length w) (pos 0))) ∙ ap (λ (k : ℕ). Z ++ drop k w) n ∙ nothing_past w
+    pub sizes : {fin : List ℤ} {e : ℕ} → Rowed mid fin m (right_of T) e → Sizes fin e
+    sizes q = record {
+      whole = rows_parts l is_node;
+      first = p.ends;
+      second = q.ends;
+      left_one = some_rows (left_of T);
+      right_one = some_rows (right_of T);
+      long = rowed_length q ∙ rowed_length p;
+      kind = (number_le o).1;
+    }

@@ -1,14 +1,11 @@
 -- What a row of a table is in its tree of numbers, and that tree in prefix form.
-use Rattle.std.specs.Prelude.{ℕ, ◌+◌, ◌<◌, List, ◌∷◌, ◌++◌, ◌≡◌, ℤ, length}
+use Rattle.std.specs.Prelude.{ℕ, ◌+◌, ◌<◌, List, ◌∷◌, ◌++◌, ◌≡◌, ℤ}
 use Rattle.std.proofs.lemmas.List.Edits.{sets}
-use Rattle.rules.specs.Form.{Form, leaf, form_of}
-use Rattle.rules.specs.Table.{primitives_before}
+use Rattle.rules.specs.Form.{Form, form_of}
 use Rattle.rules.specs.Tree.{tree_at}
 use Rattle.rules.specs.TreeRows.{rows_in}
 use Rattle.moves.specs.Moves.{node}
 use Rattle.normal.specs.Prefix.{flat}
-use Rattle.flatten.specs.declared.Part.{Part}
-use Rattle.flatten.specs.declared.Part.TheVariants.{Primitive, Node}
 
 abbrev pub form_at : List ℤ → ℕ → Form
 form_at t row = form_of (tree_at t row)
@@ -20,10 +17,6 @@ pub record Branches (t : List ℤ) (row k a b : ℕ) : Type 0 where
   pub long : rows_in (form_at t row) ≡ 1 + rows_in (form_at t a) + rows_in (form_at t b)
   pub first : a < row
   pub second : b < row
-
-abbrev pub IsPart : List ℤ → ℕ → Part → Type 0
-IsPart t row Primitive = form_at t row ≡ leaf (length (primitives_before t row))
-IsPart t row (Node k a b) = Branches t row k a b
 
 -- the tree of a row stands in prefix form from `at` on
 pub record Laid (t : List ℤ) (row at : ℕ) (before after : List ℤ) (r : ℕ) : Type 0 where

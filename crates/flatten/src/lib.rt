@@ -2,34 +2,29 @@
 
 #![tactic(auto)]
 
-ghost use Rattle.std.specs.Prelude.{◌+◌, ◌≤◌, ◌<◌, ◌≡◌, length};
+ghost use Rattle.std.specs.Prelude.{◌+◌, ◌≤◌, ◌<◌, ◌≡◌, length, MatchOption};
+ghost use Rattle.rules.specs.Form.{leaf};
 ghost use Rattle.rules.specs.Table.{row_count, primitives, primitives_before};
 ghost use Rattle.rules.specs.TreeRows.{rows_in};
 ghost use Rattle.laws.specs.Sound.{Sound};
-ghost use Rattle.moves.specs.Moves.{most_words};
-ghost use Rattle.flatten.specs.Forms.{form_at, IsPart, Laid};
+ghost use Rattle.moves.specs.Moves.{most_words, operation_number};
+ghost use Rattle.flatten.specs.Forms.{form_at, Branches, Laid};
 
+use moves::Operation::{self, Diff, Inter, Union};
 use rules::Row;
 use table::Leaf;
 
-// A row is a primitive, or an operation on two rows.
-#[derive(Clone, Copy)]
-pub enum Part {
-    Primitive,
-    Node(usize, usize, usize),
-}
-
-fn part_of(table: &[i32], row: usize) -> Part
+// The operation of a row and the rows of its two parts, unless the row is a primitive.
+fn node_of(table: &[i32], row: usize) -> Option<(Operation, usize, usize)>
     requires sound { Sound table.now }
     requires row_bound { row < row_count table.now }
-    ensures { IsPart table.now row result }
+    ensures { MatchOption result (form_at table.now row ≡ leaf (length (primitives_before table.now row))) (λ node. Branches table.now row (operation_number node.0) node.1 node.2) }
 {
-    let reads = table::read_row(table, row);
-    match reads {
-        Row::Solid(_) => Part::Primitive,
-        Row::Union(left, right) => Part::Node(moves::UNION, left, right),
-        Row::Inter(left, right) => Part::Node(moves::INTER, left, right),
-        Row::Diff(left, right) => Part::Node(moves::DIFF, left, right),
+    match table::read_row(table, row) {
+        Row::Solid(_) => None,
+        Row::Union(left, right) => Some((Union, left, right)),
+        Row::Inter(left, right) => Some((Inter, left, right)),
+        Row::Diff(left, right) => Some((Diff, left, right)),
     }
 }
 
@@ -54,10 +49,8 @@ fn number_of(table: &[i32], row: usize) -> usize
     ensures { result ≡ length (primitives_before table.now row) }
 {
     let mut n: usize = 0;
-    let mut r: usize = 0;
-    while r < row {
+    for r in 0..row {
         n = count_row(table, r, n);
-        r += 1;
     }
     n
 }
@@ -69,16 +62,15 @@ pub fn lay(table: &[i32], w: &mut [i32], at: usize, row: usize) -> usize
     requires row_in_bounds { (at + rows_in (form_at table.now row) ≤ length w.old) × (rows_in (form_at table.now row) ≤ most_words) }
     ensures { Laid table.now row at w.old w.new result }
 {
-    let part = part_of(table, row);
-    match part {
-        Part::Primitive => {
-            moves::put(w, at, number_of(table, row));
+    match node_of(table, row) {
+        None => {
+            moves::put(w, at, &[number_of(table, row)]);
             at + 1
         }
-        Part::Node(operation, left, right) => {
+        Some((operation, left, right)) => {
             let middle = lay(table, w, at + 1, left);
             let end = lay(table, w, middle, right);
-            moves::put(w, at, moves::word(operation, middle - at - 1));
+            moves::put(w, at, &[operation.word(middle - at - 1)]);
             end
         }
     }

@@ -1,122 +1,79 @@
--- Runs of words: some moved up, some copied, word by word and where the parts have names. Assumes nothing.
+-- Runs of words: some moved up, some copied, some written, where the parts of the run have names. Assumes nothing.
 use Prim.Native.Nat.{ℕ, suc, ◌+◌, ◌-◌, ◌≤◌, ◌<◌}
-use mathlib.Core.List.{List, [], ◌∷◌, ◌++◌, append_assoc}
+use mathlib.Core.List.{List, [], ◌∷◌, ◌++◌, append_assoc, map, map-append}
 use mathlib.Core.Path.{◌≡◌, sym, ap, ap₂, ◌∙◌}
 use native.Mathlib.Nat.{add-zero}
-use native.Mathlib.Numerals.{add-one}
 use native.Mathlib.Omega.{arith}
 use lib.IntN.{ℤ, pos}
-use lib.ListN.{length, length-append, length-drop, take, drop, get_or, set, get_or-append, take-append-drop}
-use lib.Seq.{take-append-add, drop-append-add, drop_at, drop-append-le, take-suc, drop-cons, slice, slice-cons, slice_empty, length-slice, set_at, length-take-le}
-use lib.Seq.{append_snoc, get_or-take, take_at}
-use Rattle.moves.specs.Moves.{Opened, Copied, PutTwo}
+use lib.ListN.{length, length-append, take, drop, get_or, set}
+use lib.Seq.{take-append-add, drop-append-add, drop_at, take_at, sets, set_at, length-take-le, append_snoc}
+use Rattle.std.specs.List.{copy_within}
+use Rattle.std.proofs.lemmas.List.{take_more, length-map}
 
--- the words from i up to e have moved up by k; those that they came from stand as they did
-abbrev pub moved : {A : Type 0} → List A → ℕ → ℕ → ℕ → List A
-moved w i k e = take (i + k) w ++ (slice i e w ++ drop (e + k) w)
+-- b has moved up by k; what stands before it now is of no account
+abbrev pub Opened : List ℤ → List ℤ → ℕ → ℕ → ℕ → Type 0
+Opened w v at k end =
+    (p b c : List ℤ) → w ≡ p ++ (b ++ c) → length p ≡ at → at + length b ≡ end
+    → (j : List ℤ) × (v ≡ p ++ (j ++ (b ++ drop k c))) × (length j ≡ k)
 
--- n words from f on stand at t too
-abbrev pub copied : {A : Type 0} → List A → ℕ → ℕ → ℕ → List A
-copied w f t n = take t w ++ (slice f (f + n) w ++ drop (t + n) w)
+-- x stands a second time, in the place of j
+abbrev pub Copied : List ℤ → List ℤ → ℕ → ℕ → ℕ → Type 0
+Copied w v from to n =
+    (p x b j c : List ℤ) → w ≡ p ++ (x ++ (b ++ (j ++ c))) → length p ≡ from → length x ≡ n → length j ≡ n → from + n + length b ≡ to
+    → v ≡ p ++ (x ++ (b ++ (x ++ c)))
 
-module _ {A : Type 0} (d : A) where
-  pub moved_none : (w : List A) (k e : ℕ) → moved w e k e ≡ w
-  moved_none w k e = ap {B = List A} (λ l. take (e + k) w ++ (l ++ drop (e + k) w)) (slice_empty e w) ∙ take-append-drop (e + k) w
+pub opened : {w u : List ℤ} (at k end : ℕ) {place : ℕ} → u ≡ copy_within w at end place → place ≡ at + k → end + k ≤ length w → Opened w u at k end
+opened {w} {u} at k end {place} e to h p b c f hp hb =
+    let g : w ≡ (p ++ b) ++ c = f ∙ sym (append_assoc p b c) in
+    let l : length (p ++ b) ≡ end = length-append p b ∙ omega arith in
+    let n : end - at ≡ length b = omega arith in
+    let m : place + (end - at) ≡ end + k = omega arith in
+    let t : take place w ≡ p ++ take k (b ++ c) = ap₂ (λ (i : ℕ) (y : List ℤ). take i y) (to ∙ ap (λ (i : ℕ). i + k) (sym hp)) f ∙ take-append-add p (b ++ c) k in
+    let s : take (end - at) (drop at w) ≡ b =
+    ap (λ (y : List ℤ). take (end - at) (drop at y)) f ∙ ap (λ (y : List ℤ). take (end - at) y) (drop_at p (b ++ c) at hp) ∙ take_at b c (end - at) (sym n) in
+    let r : drop (place + (end - at)) w ≡ drop k c =
+    ap₂ (λ (i : ℕ) (y : List ℤ). drop i y) m g ∙ ap (λ (i : ℕ). drop (i + k) ((p ++ b) ++ c)) (sym l) ∙ drop-append-add (p ++ b) c k in
+    let o : length w ≡ length p + (length b + length c) = ap length f ∙ length-append p (b ++ c) ∙ ap (λ (i : ℕ). length p + i) (length-append b c) in (
+      take k (b ++ c),
+      e ∙ ap₂ (λ (x y : List ℤ). x ++ y) (ap₂ (λ (x y : List ℤ). x ++ y) t s) r ∙ simp append_assoc,
+      length-take-le k (b ++ c) (omega (arith, length-append b c)),
+    )
 
-  -- one word more
-  pub moved_more : (w : List A) (i k e : ℕ) → i < e → 1 ≤ k → e + k ≤ length w
-      → set (moved w (i + 1) k e) (i + k) (get_or (moved w (i + 1) k e) i d) ≡ moved w i k e
-  moved_more w i k e hi hk he =
-      let l : length (take (i + 1 + k) w) ≡ i + 1 + k = length-take-le (i + 1 + k) w (omega arith) in
-      let g : get_or (moved w (i + 1) k e) i d ≡ get_or w i d =
-      get_or-append (take (i + 1 + k) w) (slice (i + 1) e w ++ drop (e + k) w) d i (omega arith) ∙ get_or-take (i + 1 + k) w i d (omega arith) in
-      let n : i + 1 + k ≡ suc (i + k) = omega arith in
-      let m : moved w (i + 1) k e ≡ take (i + k) w ++ (get_or w (i + k) d ∷ (slice (i + 1) e w ++ drop (e + k) w)) =
-      ap {B = List A} (λ j. take j w ++ (slice (i + 1) e w ++ drop (e + k) w)) n
-      ∙ ap {B = List A} (λ x. x ++ (slice (i + 1) e w ++ drop (e + k) w)) (take-suc w (i + k) d (omega arith))
-      ∙ append_snoc (take (i + k) w) (get_or w (i + k) d) (slice (i + 1) e w ++ drop (e + k) w) in
-      let s : slice i e w ≡ get_or w i d ∷ slice (i + 1) e w = slice-cons i e w d hi (omega arith) ∙ ap {B = List A} (λ j. get_or w i d ∷ slice j e w) (sym (add-one i)) in
-      ap₂ {C = List A} (λ l x. set l (i + k) x) m g
-      ∙ set_at (take (i + k) w) (get_or w (i + k) d) (slice (i + 1) e w ++ drop (e + k) w) (get_or w i d) (i + k) (length-take-le (i + k) w (omega arith))
-      ∙ ap {B = List A} (λ l. take (i + k) w ++ (l ++ drop (e + k) w)) (sym s)
+pub copies : {w v : List ℤ} (from to n : ℕ) → v ≡ copy_within w from (from + n) to → Copied w v from to n
+copies {w} {v} from to n g p x b j c f hp hx hj hb =
+    let y : List ℤ = p ++ (x ++ b) in
+    let e : w ≡ y ++ (j ++ c) = f ∙ simp append_assoc in
+    let l : length y ≡ to = omega (arith, length-append p (x ++ b), length-append x b) in
+    let lj : length (y ++ j) ≡ to + (from + n - from) = length-append y j ∙ omega arith in
+    let m : from + n - from ≡ length x = omega arith in
+    let t : take to w ≡ y = ap (λ (z : List ℤ). take to z) e ∙ take_at y (j ++ c) to l in
+    let s : take (from + n - from) (drop from w) ≡ x =
+    ap (λ (z : List ℤ). take (from + n - from) (drop from z)) f
+    ∙ ap (λ (z : List ℤ). take (from + n - from) z) (drop_at p (x ++ (b ++ (j ++ c))) from hp) ∙ take_at x (b ++ (j ++ c)) (from + n - from) (sym m) in
+    let r : drop (to + (from + n - from)) w ≡ c =
+    ap (λ (z : List ℤ). drop (to + (from + n - from)) z) (e ∙ sym (append_assoc y j c)) ∙ drop_at (y ++ j) c (to + (from + n - from)) lj in
+    g ∙ ap₂ (λ (z z' : List ℤ). z ++ z') (ap₂ (λ (z z' : List ℤ). z ++ z') t s) r ∙ simp append_assoc
 
-  pub length_moved : (w : List A) (i k e : ℕ) → i ≤ e → e + k ≤ length w → length (moved w i k e) ≡ length w
-  length_moved w i k e hi he =
-      omega (arith, length-append (take (i + k) w) (slice i e w ++ drop (e + k) w), length-append (slice i e w) (drop (e + k) w), length-take-le (i + k) w (omega arith), length-slice i e w (omega arith), length-drop (e + k) w)
+-- ---- words written
+-- one more
+sets_snoc : (l : List ℤ) (at : ℕ) (xs : List ℤ) (x : ℤ) → set (sets l at xs) (at + length xs) x ≡ sets l at (xs ++ (x ∷ []))
+sets_snoc l at [] x = ap (λ (i : ℕ). set l i x) (add-zero at)
+sets_snoc l at (y ∷ xs) x =
+    let e : at + suc (length xs) ≡ suc at + length xs = omega arith in
+    ap (λ (i : ℕ). set (sets (set l at y) (suc at) xs) i x) e ∙ sets_snoc (set l at y) (suc at) xs x
 
-  pub copied_none : (w : List A) (f t : ℕ) → copied w f t 0 ≡ w
-  copied_none w f t =
-      ap {B = List A} (λ j. take t w ++ (slice f j w ++ drop (t + 0) w)) (add-zero f)
-      ∙ ap {B = List A} (λ l. take t w ++ (l ++ drop (t + 0) w)) (slice_empty f w)
-      ∙ ap {B = List A} (λ j. take t w ++ drop j w) (add-zero t) ∙ take-append-drop t w
+pub put_more : (l : List ℤ) (at i : ℕ) (xs : List ℕ) → i < length xs
+    → set (sets l at (map pos (take i xs))) (at + i) (pos (get_or xs i 0)) ≡ sets l at (map pos (take (i + 1) xs))
+put_more l at i xs h =
+    let n : length (map pos (take i xs)) ≡ i = length-map (take i xs) pos ∙ length-take-le i xs (omega arith) in
+    ap (λ (j : ℕ). set (sets l at (map pos (take i xs))) (at + j) (pos (get_or xs i 0))) (sym n)
+    ∙ sets_snoc l at (map pos (take i xs)) (pos (get_or xs i 0))
+    ∙ ap (sets l at) (sym (ap (map pos) (take_more xs i 0 h) ∙ map-append pos (take i xs) (get_or xs i 0 ∷ [])))
 
-  slice_snoc : (w : List A) (f n : ℕ) → f + n < length w → slice f (f + (n + 1)) w ≡ slice f (f + n) w ++ (get_or w (f + n) d ∷ [])
-  slice_snoc w f n h =
-      let l : length (take (f + n) w) ≡ f + n = length-take-le (f + n) w (omega arith) in
-      let m : f + (n + 1) ≡ suc (f + n) = omega arith in
-      ap {B = List A} (λ j. slice f j w) m ∙ ap (drop f) (take-suc w (f + n) d h) ∙ drop-append-le f (take (f + n) w) (get_or w (f + n) d ∷ []) (omega arith)
+pub one_put : (a : List ℤ) (i : ℤ) (l : List ℤ) (x : ℤ) (at : ℕ) → length a ≡ at → sets (a ++ (i ∷ l)) at (x ∷ []) ≡ a ++ (x ∷ l)
+one_put a i l x at h = set_at a i l x at h
 
-  pub copied_more : (w : List A) (f t n : ℕ) → f + n < t → t + n < length w
-      → set (copied w f t n) (t + n) (get_or (copied w f t n) (f + n) d) ≡ copied w f t (n + 1)
-  copied_more w f t n hf ht =
-      let l : length (take t w) ≡ t = length-take-le t w (omega arith) in
-      let g : get_or (copied w f t n) (f + n) d ≡ get_or w (f + n) d =
-      get_or-append (take t w) (slice f (f + n) w ++ drop (t + n) w) d (f + n) (omega arith) ∙ get_or-take t w (f + n) d hf in
-      let m : copied w f t n ≡ (take t w ++ slice f (f + n) w) ++ (get_or w (t + n) d ∷ drop (suc (t + n)) w) =
-      ap {B = List A} (λ x. take t w ++ (slice f (f + n) w ++ x)) (drop-cons w (t + n) d ht)
-      ∙ sym (append_assoc (take t w) (slice f (f + n) w) (get_or w (t + n) d ∷ drop (suc (t + n)) w)) in
-      let k : length (take t w ++ slice f (f + n) w) ≡ t + n =
-      omega (arith, length-append (take t w) (slice f (f + n) w), length-slice f (f + n) w (omega arith)) in
-      let j : t + (n + 1) ≡ suc (t + n) = omega arith in
-      ap₂ {C = List A} (λ l x. set l (t + n) x) m g
-      ∙ set_at (take t w ++ slice f (f + n) w) (get_or w (t + n) d) (drop (suc (t + n)) w) (get_or w (f + n) d) (t + n) k
-      ∙ append_assoc (take t w) (slice f (f + n) w) (get_or w (f + n) d ∷ drop (suc (t + n)) w)
-      ∙ ap {B = List A} (λ x. take t w ++ x)
-      (sym (append_snoc (slice f (f + n) w) (get_or w (f + n) d) (drop (suc (t + n)) w))
-      ∙ ap₂ {C = List A} (λ x y. x ++ y) (sym (slice_snoc w f n (omega arith))) (ap (λ (i : ℕ). drop i w) (sym j)))
-
-  -- ---- the same, where the parts of the run have names
-  -- b has moved up by k; what stands before it are k words of no account, j, and c has lost as many
-  pub moved_parts : (p b c : List A) (m k n : ℕ) → length p ≡ m → m + length b ≡ n
-      → (j : List A) × (moved (p ++ (b ++ c)) m k n ≡ p ++ (j ++ (b ++ drop k c))) × (k ≤ length b + length c → length j ≡ k)
-  moved_parts p b c m k n hp hn =
-      let w : List A = p ++ (b ++ c) in
-      let e : w ≡ (p ++ b) ++ c = sym (append_assoc p b c) in
-      let l : length (p ++ b) ≡ n = length-append p b ∙ omega arith in
-      let t : take (m + k) w ≡ p ++ take k (b ++ c) = ap (λ (i : ℕ). take (i + k) w) (sym hp) ∙ take-append-add p (b ++ c) k in
-      let u : take n w ≡ p ++ b = ap {B = List A} (λ y. take n y) e ∙ take_at (p ++ b) c n l in
-      let s : slice m n w ≡ b = ap {B = List A} (λ y. drop m y) u ∙ drop_at p b m hp in
-      let r : drop (n + k) w ≡ drop k c = ap₂ {C = List A} (λ (i : ℕ) y. drop (i + k) y) (sym l) e ∙ drop-append-add (p ++ b) c k in (
-        take k (b ++ c),
-        ap₂ {C = List A} (λ y z. y ++ z) t (ap₂ {C = List A} (λ y z. y ++ z) s r) ∙ append_assoc p (take k (b ++ c)) (b ++ drop k c),
-        λ h. length-take-le k (b ++ c) (omega (arith, length-append b c)),
-      )
-
-  -- x stands a second time in the place of j
-  pub copied_parts : (p x b j c : List A) (m f n : ℕ) → length p ≡ m → length x ≡ n → length j ≡ n → m + n + length b ≡ f
-      → copied (p ++ (x ++ (b ++ (j ++ c)))) m f n ≡ p ++ (x ++ (b ++ (x ++ c)))
-  copied_parts p x b j c m f n hp hx hj hf =
-      let w : List A = p ++ (x ++ (b ++ (j ++ c))) in
-      let e : w ≡ (p ++ (x ++ b)) ++ (j ++ c) = ap {B = List A} (λ y. p ++ y) (sym (append_assoc x b (j ++ c))) ∙ sym (append_assoc p (x ++ b) (j ++ c)) in
-      let l : length (p ++ (x ++ b)) ≡ f = omega (arith, length-append p (x ++ b), length-append x b) in
-      let t : take f w ≡ p ++ (x ++ b) = ap {B = List A} (λ y. take f y) e ∙ take_at (p ++ (x ++ b)) (j ++ c) f l in
-      let lx : length (p ++ x) ≡ m + n = length-append p x ∙ omega arith in
-      let u : take (m + n) w ≡ p ++ x = ap {B = List A} (λ y. take (m + n) y) (sym (append_assoc p x (b ++ (j ++ c)))) ∙ take_at (p ++ x) (b ++ (j ++ c)) (m + n) lx in
-      let s : slice m (m + n) w ≡ x = ap {B = List A} (λ y. drop m y) u ∙ drop_at p x m hp in
-      let lj : length ((p ++ (x ++ b)) ++ j) ≡ f + n = length-append (p ++ (x ++ b)) j ∙ omega arith in
-      let r : drop (f + n) w ≡ c = ap {B = List A} (λ y. drop (f + n) y) (e ∙ sym (append_assoc (p ++ (x ++ b)) j c)) ∙ drop_at ((p ++ (x ++ b)) ++ j) c (f + n) lj in
-      ap₂ {C = List A} (λ y z. y ++ z) t (ap₂ {C = List A} (λ y z. y ++ z) s r) ∙ append_assoc p (x ++ b) (x ++ c) ∙ ap {B = List A} (λ y. p ++ y) (append_assoc x b (x ++ c))
-
-pub opened : (w : List ℤ) (at k end : ℕ) → end + k ≤ length w → Opened w (moved w at k end) at k end
-opened w at k end l p b c e hp hb =
-    let m = moved_parts (pos 0) p b c at k end hp hb in
-    let n : length w ≡ length p + (length b + length c) = ap length e ∙ length-append p (b ++ c) ∙ ap (λ (i : ℕ). length p + i) (length-append b c) in
-    (m.0, ap (λ (v : List ℤ). moved v at k end) e ∙ m.1, m.2 (omega arith))
-
-pub copies : (w : List ℤ) (from to n : ℕ) → Copied w (copied w from to n) from to n
-copies w from to n p x b j c e hp hx hj hb = ap (λ (v : List ℤ). copied v from to n) e ∙ copied_parts (pos 0) p x b j c from to n hp hx hj hb
-
-pub two_put : (w : List ℤ) (at : ℕ) (x y : ℤ) → PutTwo w (set (set w at x) (at + 1) y) at x y
-two_put w at x y a l i j e h =
-    ap (λ (v : List ℤ). set (set v at x) (at + 1) y) e ∙ ap (λ (v : List ℤ). set v (at + 1) y) (set_at a i (j ∷ l) x at h ∙ sym (append_snoc a x (j ∷ l)))
-    ∙ set_at (a ++ (x ∷ [])) j l y (at + 1) (length-append a (x ∷ []) ∙ ap (λ (n : ℕ). n + 1) h) ∙ append_snoc a x (y ∷ l)
+pub two_put : (a : List ℤ) (i j : ℤ) (l : List ℤ) (x y : ℤ) (at : ℕ) → length a ≡ at → sets (a ++ (i ∷ (j ∷ l))) at (x ∷ y ∷ []) ≡ a ++ (x ∷ (y ∷ l))
+two_put a i j l x y at h =
+    ap (λ (v : List ℤ). set v (suc at) y) (set_at a i (j ∷ l) x at h ∙ sym (append_snoc a x (j ∷ l)))
+    ∙ set_at (a ++ (x ∷ [])) j l y (suc at) (omega (arith, length-append a (x ∷ []))) ∙ append_snoc a x (y ∷ l)

@@ -1,9 +1,16 @@
 -- What the moves leave of a run of words, where its parts have names: x, y and z are the words of the trees X, Y and Z.
-use Rattle.std.specs.Prelude.{ℕ, ◌+◌, ◌*◌, ◌<◌, List, ◌∷◌, ◌++◌, ◌≡◌, ℤ, pos, length, drop}
+use Rattle.std.specs.Prelude.{ℕ, ◌+◌, ◌*◌, ◌<◌, List, ◌∷◌, ◌++◌, ◌≡◌, ℤ, pos, length, drop, slice_index}
+use Rattle.moves.specs.declared.Operation.{Operation}
+use Rattle.moves.specs.declared.Operation.TheVariants.{Union, Inter, Diff}
 
 -- no tree has more words: 4,096 leaves, and the operations on them
 abbrev pub most_words : ℕ
 most_words = 8191
+
+abbrev pub operation_number : Operation → ℕ
+operation_number Union = 19
+operation_number Inter = 20
+operation_number Diff = 21
 
 -- the word of an operation whose left part has n words
 abbrev pub node : ℕ → ℕ → ℤ
@@ -13,20 +20,8 @@ node operation n = pos (operation + 32 * n)
 abbrev pub IsWord : ℕ → Type 0
 IsWord x = x < 32 + 32 * most_words
 
--- b has moved up by k; what stands before it now is of no account
-abbrev pub Opened : List ℤ → List ℤ → ℕ → ℕ → ℕ → Type 0
-Opened w v at k end =
-    (p b c : List ℤ) → w ≡ p ++ (b ++ c) → length p ≡ at → at + length b ≡ end
-    → (j : List ℤ) × (v ≡ p ++ (j ++ (b ++ drop k c))) × (length j ≡ k)
-
--- x stands a second time, in the place of j
-abbrev pub Copied : List ℤ → List ℤ → ℕ → ℕ → ℕ → Type 0
-Copied w v from to n =
-    (p x b j c : List ℤ) → w ≡ p ++ (x ++ (b ++ (j ++ c))) → length p ≡ from → length x ≡ n → length j ≡ n → from + n + length b ≡ to
-    → v ≡ p ++ (x ++ (b ++ (x ++ c)))
-
-abbrev pub PutTwo : List ℤ → List ℤ → ℕ → ℤ → ℤ → Type 0
-PutTwo w v at x y = (a l : List ℤ) (i j : ℤ) → w ≡ a ++ (i ∷ (j ∷ l)) → length a ≡ at → v ≡ a ++ (x ∷ (y ∷ l))
+abbrev pub AreWords : List ℕ → Type 0
+AreWords xs = (i : ℕ) → i < length xs → IsWord (slice_index xs i)
 
 -- 1, 4, 6: k X (q Y Z) becomes p (r X Y) Z, where b is Y, Z and what follows
 abbrev pub LeanTo : List ℤ → List ℤ → ℕ → ℕ → ℕ → ℕ → ℕ → Type 0

@@ -9,9 +9,9 @@ use Rattle.rules.specs.Form.{Form, ◌∪◌, ◌∩◌, ◌∖◌}
 use Rattle.rules.specs.TreeRows.{rows_in}
 use Rattle.paper.specs.Runs.{Taken, t1, t2, t3, t4, t5, t6}
 use Rattle.moves.specs.Moves.{most_words, node, LeanTo, SplitTo}
-use Rattle.normal.specs.Prefix.{flat, head, left_of, right_of, Small}
+use Rattle.normal.specs.Prefix.{flat, head, left_words, left_of, right_of, Small}
 use Rattle.normal.specs.Held.{Rewritten, Placed}
-use Rattle.normal.proofs.Words.{length_flat, Parts, of_union, of_inter, of_diff, as_union, as_inter, as_diff, parts_of, held_length}
+use Rattle.normal.proofs.Words.{length_flat, Parts, of_union, of_inter, of_diff, as_union, as_inter, as_diff, parts_of, held_length, left_words_rows}
 use Rattle.normal.proofs.Words.{placed_parts, placed_small, placed_room, placed_few}
 
 module _ {w : List ℤ} {at right used : ℕ} {a : List ℤ} {T : Form} {c : List ℤ} (h : Placed w at right used a T c) (g : 16 ≤ head (right_of T)) where
@@ -43,6 +43,9 @@ module _ {w : List ℤ} {at right used : ℕ} {a : List ℤ} {T : Form} {c : Lis
 
   inner_small : Small X × (Small Y × Small Z)
   inner_small = ((placed_small h).0, inner.small (placed_small h).1)
+
+  pub middle_is : {middle : ℕ} → middle ≡ left_words R → middle ≡ rows_in Y
+  middle_is e = e ∙ left_words_rows R (placed_small h).1 g
 
   -- where `lean` and `split` look
   pub lean_in : {middle : ℕ} → middle ≡ rows_in Y → (at + 1 ≤ right) × (right + 1 ≤ length w) × (right - at + middle ≤ most_words)

@@ -1,14 +1,12 @@
 -- What stays and what falls from rewrite to rewrite at a node. Assumes nothing.
-use Prim.Native.Nat.{ℕ, suc, ◌+◌, ◌-◌, ◌≤◌, ◌<◌}
-use mathlib.Core.Bool.{Bool, true, false}
+use Prim.Native.Nat.{ℕ, ◌+◌, ◌≤◌, ◌<◌}
+use mathlib.Core.Bool.{true}
 use mathlib.Core.List.{List}
-use mathlib.Core.Option.{none}
 use mathlib.Core.Path.{◌≡◌, refl, sym, ap, ◌∙◌}
 use native.Mathlib.Nat.{le_refl}
 use native.Mathlib.Omega.{arith}
 use lib.IntN.{ℤ}
 use lib.ListN.{length}
-use Rattle.std.specs.Prelude.{if◌then◌else◌}
 use Rattle.rules.specs.Form.{Form}
 use Rattle.rules.specs.Procedure.{lowest}
 use Rattle.rules.specs.TreeRows.{rows_in}
@@ -17,7 +15,7 @@ use Rattle.paper.specs.Runs.{Taken, t1, t2, t3, t4, t5, t6, t65, t7, t8}
 use Rattle.paper.proofs.Ending.{normalize_step}
 use Rattle.paper.proofs.Taking.{taken_lowest, taken_high, taken_falls}
 use Rattle.normal.specs.Prefix.{head, Lies}
-use Rattle.normal.specs.Held.{Held, Ready, Turned, Leads, Stopped}
+use Rattle.normal.specs.Held.{Held, Ready, Rewritten, Leads}
 use Rattle.normal.proofs.Words.{held_lies}
 use Rattle.normal.proofs.Reading.{tree_at, lies_tree}
 
@@ -50,28 +48,18 @@ pub ready_on : {w v : List ℤ} {at used n : ℕ} {a : List ℤ} {T U : Form} {c
 ready_on {w} {v} {at} {used} {n} {a} {T} {U} {c} r l h e =
     record { held = h; room = omega (arith, r.room, ap rows_in l.same, e); most = omega (arith, r.most, ap rows_in l.same) }
 
--- as a loop has it: no rule fits once it stops
-pub record Going (v : List ℤ) (at n : ℕ) (a : List ℤ) (T : Form) (c : List ℤ) (fits : Bool) : Type 0 where
+-- as the loop has it
+pub record Going (v : List ℤ) (at n : ℕ) (a : List ℤ) (T : Form) (c : List ℤ) : Type 0 where
   pub tree : Form
   pub leads : Leads T tree
   pub held : Held v at n a tree c
-  pub ends : fits ≡ false → lowest tree ≡ none
 
-pub turn_on : {T U : Form} (v : List ℤ) (at n : ℕ) (a c : List ℤ) (b : Bool) → Leads T U → Turned v at n a U c b → Going v at n a T c b
-turn_on v at n a c true l (S, k, h) =
-    record { tree = S; leads = leads_step l k; held = h; ends = λ e. absurd (let z : ◌≡◌ {A = ℕ} 0 1 = cc in omega arith) }
-turn_on {U = U} v at n a c false l (o, h) = record { tree = U; leads = l; held = h; ends = λ e. o }
+pub turn_on : {T U : Form} (v : List ℤ) (at n : ℕ) (a c : List ℤ) → Leads T U → Rewritten v at n a U c → Going v at n a T c
+turn_on v at n a c l (S, k, h) = record { tree = S; leads = leads_step l k; held = h }
 
-abbrev pub left_over : List ℤ → ℕ → Bool → ℕ
-left_over w at fits = if fits then suc (weight (tree_at w at) true) else 0
-
-pub turn_falls : {w : List ℤ} {at : ℕ} {U : Form} (v : List ℤ) (n : ℕ) (a c : List ℤ) (b : Bool) → Lies w at U → Turned v at n a U c b
-    → left_over v at b < suc (weight (tree_at w at) true)
-turn_falls {w} {at} {U} v n a c true l (S, k, h) =
+pub turn_falls : {w : List ℤ} {at : ℕ} {U : Form} (v : List ℤ) (n : ℕ) (a c : List ℤ) → Lies w at U → Rewritten v at n a U c
+    → weight (tree_at v at) true < weight (tree_at w at) true
+turn_falls {w} {at} {U} v n a c l (S, k, h) =
     let e : weight (tree_at w at) true ≡ weight U true = ap (λ (T : Form). weight T true) (lies_tree l) in
     let f : weight (tree_at v at) true ≡ weight S true = ap (λ (T : Form). weight T true) (lies_tree (held_lies h)) in
     omega (arith, taken_falls k)
-turn_falls {w} {at} {U} v n a c false l h = omega arith
-
-pub going_stops : {v : List ℤ} {at n : ℕ} {a : List ℤ} {T : Form} {c : List ℤ} {b : Bool} → b ≡ false → Going v at n a T c b → Stopped v at n a T c
-going_stops e g = record { tree = g.tree; leads = g.leads; held = g.held; ends = g.ends e }

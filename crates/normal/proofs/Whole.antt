@@ -6,12 +6,9 @@ use mathlib.Core.Option.{none}
 use mathlib.Core.Path.{◌≡◌, refl, sym, ap, subst, ◌∙◌}
 use native.Mathlib.Nat.{le_refl, mul-le-mul_right}
 use native.Mathlib.Omega.{arith}
-use borrow.Author.Tests.{ne_eqb}
-use lib.Dec.{eqb}
 use lib.IntN.{ℤ, pos}
 use lib.ListN.{length, length-append, get_or, set}
 use lib.Seq.{set_at, get_or_at, append_snoc}
-use Rattle.std.specs.Prelude.{if◌then◌else◌}
 use Rattle.rules.specs.Form.{Form, leaf, ◌∪◌, ◌∩◌, ◌∖◌}
 use Rattle.rules.specs.Procedure.{is_union, lowest, normalize}
 use Rattle.rules.specs.TreeRows.{rows_in}
@@ -22,36 +19,26 @@ use Rattle.paper.proofs.Rows.{rows_leaves}
 use Rattle.paper.proofs.Running.{runs_leaves, runs_weight, runs_high}
 use Rattle.paper.proofs.Taking.{weight_two}
 use Rattle.moves.specs.Moves.{most_words, node}
-use Rattle.normal.specs.Prefix.{flat, head, left_of, right_of, Small, Lies}
+use Rattle.normal.specs.Prefix.{flat, head, left_words, left_of, right_of, Small, Lies}
 use Rattle.normal.specs.Held.{Held, Ready, Leads, Stopped, Widens, Widened, goes_on}
-use Rattle.normal.proofs.Words.{length_flat, Parts, of_union, parts_of, like, of_like, as_leaf, small_parts, head_le}
+use Rattle.normal.proofs.Words.{length_flat, Parts, of_union, parts_of, like, of_like, as_leaf, small_parts, head_le, left_words_rows}
 use Rattle.normal.proofs.Words.{held_lies, held_left, held_right, from_left, from_right}
 use Rattle.normal.proofs.Reading.{tree_at, lies_tree}
 
 -- ---- the test
-pub goes_no : (T : Form) → head T ≡ 19 → goes_on T ≡ false
-unfolding head
-goes_no (leaf i) h = refl
-goes_no (X ∪ Y) h = refl
-goes_no (X ∩ Y) h = absurd (omega arith)
-goes_no (X ∖ Y) h = absurd (omega arith)
+pub goes_no : (T : Form) → is_union T ≡ true → false ≡ goes_on T
+unfolding is_union
+goes_no (leaf i) e = cc
+goes_no (X ∪ Y) e = refl
+goes_no (X ∩ Y) e = cc
+goes_no (X ∖ Y) e = cc
 
-union_head : (X : Form) → Small X → eqb (head X) 19 ≡ is_union X
-unfolding head is_union Small
-union_head (leaf i) s = ne_eqb i 19 (λ e. omega arith)
-union_head (A ∪ B) s = refl
-union_head (A ∩ B) s = refl
-union_head (A ∖ B) s = refl
-
-goes_head : (T : Form) → Small T → 16 ≤ head T → (head T ≡ 19 → ⊥) → eqb (head (left_of T)) 19 ≡ goes_on T
-unfolding head left_of Small
-goes_head (leaf i) s k n = absurd (omega arith)
-goes_head (X ∪ Y) s k n = absurd (n refl)
-goes_head (X ∩ Y) s k n = union_head X s.0
-goes_head (X ∖ Y) s k n = union_head X s.0
-
-pub goes_left : (T : Form) → Small T → 16 ≤ head T → (head T ≡ 19 → ⊥) → {k : ℕ} → k ≡ head (left_of T) → eqb k 19 ≡ goes_on T
-goes_left T s h n e = ap (λ (j : ℕ). eqb j 19) e ∙ goes_head T s h n
+pub goes_left : (T : Form) → Small T → 16 ≤ head T → is_union T ≡ false → is_union (left_of T) ≡ goes_on T
+unfolding head left_of is_union Small
+goes_left (leaf i) s k e = absurd (omega arith)
+goes_left (X ∪ Y) s k e = cc
+goes_left (X ∩ Y) s k e = refl
+goes_left (X ∖ Y) s k e = refl
 
 -- ---- a tree of which the left part is normalized
 abbrev pub settled : Form → Form
@@ -170,15 +157,11 @@ fits_again (X ∖ Y) e g = fits_cut less X Y e g
 abbrev pub urge : Form → ℕ
 urge T = 2 * weight T true - fitting (lowest T)
 
-abbrev pub to_go : List ℤ → ℕ → Bool → ℕ
-to_go w at going = if going then urge (tree_at w at) else 0
-
-urge_falls : (U T : Form) (b : Bool) → Leads U T → lowest T ≡ none → goes_on (settled T) ≡ b → (if b then urge (settled T) else 0) < urge U
+urge_falls : (U T : Form) → Leads U T → lowest T ≡ none → goes_on (settled T) ≡ true → urge (settled T) < urge U
 unfolding fitting
-urge_falls U T true l o e =
+urge_falls U T l o e =
     let f : fitting (lowest T) ≡ 0 = ap fitting o in
     omega (arith, fits_again T o e, weight_settled T, l.down, fit_le (lowest U), weight_two T true)
-urge_falls U T false l o e = omega (arith, fit_le (lowest U), weight_two U true)
 
 head_like : (T X Y : Form) → head (like T X Y) ≡ head T
 unfolding head like
@@ -198,15 +181,10 @@ pub record Onward (w : List ℤ) (at n : ℕ) (a : List ℤ) (T : Form) (c : Lis
 pub onward_first : {w : List ℤ} {at n : ℕ} {a : List ℤ} {T : Form} {c : List ℤ} → Held w at n a T c → 16 ≤ head T → Onward w at n a T c true
 onward_first {T = T} h k = record { tree = T; held = h; node = k; deep = refl; stage = refl }
 
-pub onward_same : {w : List ℤ} {at n : ℕ} {a : List ℤ} {T : Form} {c : List ℤ} {b : Bool} → b ≡ true → (o : Onward w at n a T c b)
-    → normalize o.tree ≡ normalize T
-onward_same {T = T} f o = subst (λ (x : Bool). Stage T o.tree x) f o.stage
-
-pub onward_ready : {w₀ w : List ℤ} {at used n : ℕ} {a : List ℤ} {T : Form} {c : List ℤ} {b : Bool} → Ready w₀ at used a T c → length w ≡ length w₀ → b ≡ true
-    → (o : Onward w at n a T c b) → Ready w at n a o.tree c
-onward_ready {w₀} {w} {at} {used} {n} {a} {T} {c} {b} r e f o =
-    let g : normalize o.tree ≡ normalize T = onward_same f o in
-    record { held = o.held; room = omega (arith, r.room, ap rows_in g); most = omega (arith, r.most, ap rows_in g) }
+pub onward_ready : {w₀ w : List ℤ} {at used n : ℕ} {a : List ℤ} {T : Form} {c : List ℤ} → Ready w₀ at used a T c → length w ≡ length w₀
+    → (o : Onward w at n a T c true) → Ready w at n a o.tree c
+onward_ready {w₀} {w} {at} {used} {n} {a} {T} {c} r e o =
+    record { held = o.held; room = omega (arith, r.room, ap rows_in o.stage); most = omega (arith, r.most, ap rows_in o.stage) }
 
 -- the left part is ready
 module _ {w : List ℤ} {at n : ℕ} {a : List ℤ} {U : Form} {c : List ℤ} (s : Stopped w at n a U c) (k : 16 ≤ head U) where
@@ -307,11 +285,11 @@ module _ {w : List ℤ} {at n : ℕ} {a : List ℤ} {U : Form} {c : List ℤ} (s
       on true z = z ∙ s.leads.same ∙ e
       on false z = z ∙ s.leads.same ∙ e
 
-  pub onward_falls : {w₀ v : List ℤ} {m : ℕ} {b : Bool} → Lies w₀ at U → Held v at m a (settled s.tree) c → b ≡ goes_on (settled s.tree)
-      → to_go v at b < urge (tree_at w₀ at)
-  onward_falls {w₀} {v} {m} {b} l h g =
-      subst (λ (T : Form). to_go v at b < urge T) (sym (lies_tree l))
-      (subst (λ (T : Form). (if b then urge T else 0) < urge U) (sym (lies_tree (held_lies h))) (urge_falls U s.tree b s.leads s.ends (sym g)))
+  pub onward_falls : {w₀ v : List ℤ} {m : ℕ} → Lies w₀ at U → Held v at m a (settled s.tree) c → goes_on (settled s.tree) ≡ true
+      → urge (tree_at v at) < urge (tree_at w₀ at)
+  onward_falls {w₀} {v} {m} l h g =
+      subst (λ (T : Form). urge (tree_at v at) < urge T) (sym (lies_tree l))
+      (subst (λ (T : Form). urge T < urge U) (sym (lies_tree (held_lies h))) (urge_falls U s.tree s.leads s.ends g))
 
 -- ---- the end
 pub normal_leaf : {w : List ℤ} {at n : ℕ} {a : List ℤ} {T : Form} {c : List ℤ} → head T < 16 → Held w at n a T c → Held w at n a (normalize T) c
@@ -319,18 +297,16 @@ normal_leaf {w} {at} {n} {a} {T} {c} k h =
     let e : normalize T ≡ T = ap normalize (as_leaf T k) ∙ normalize_leaf (head T) ∙ sym (as_leaf T k) in
     subst (λ (N : Form). Held w at n a N c) (sym e) h
 
-last_other : (U : Form) → (head U ≡ 19 → ⊥) → last U ≡ U
-unfolding head last
-last_other (leaf i) n = refl
-last_other (X ∪ Y) n = absurd (n refl)
-last_other (X ∩ Y) n = refl
-last_other (X ∖ Y) n = refl
+last_other : (U : Form) → is_union U ≡ false → last U ≡ U
+unfolding is_union last
+last_other (leaf i) e = refl
+last_other (X ∪ Y) e = cc
+last_other (X ∩ Y) e = refl
+last_other (X ∖ Y) e = refl
 
-pub end_other : {w : List ℤ} {at n : ℕ} {a : List ℤ} {T : Form} {c : List ℤ} {b : Bool} → b ≡ false → (o : Onward w at n a T c b) → (head o.tree ≡ 19 → ⊥)
+pub end_other : {w : List ℤ} {at n : ℕ} {a : List ℤ} {T : Form} {c : List ℤ} → (o : Onward w at n a T c false) → is_union o.tree ≡ false
     → Held w at n a (normalize T) c
-end_other {w} {at} {n} {a} {T} {c} {b} f o k =
-    let e : last o.tree ≡ normalize T = subst (λ (x : Bool). Stage T o.tree x) f o.stage in
-    subst (λ (N : Form). Held w at n a N c) (sym (last_other o.tree k) ∙ e) o.held
+end_other {w} {at} {n} {a} {T} {c} o k = subst (λ (N : Form). Held w at n a N c) (sym (last_other o.tree k) ∙ o.stage) o.held
 
 last_union : (U : Form) → Small U → head U ≡ 19 → last U ≡ left_of U ∪ normalize (right_of U)
 unfolding head last left_of right_of Small
@@ -346,7 +322,7 @@ high_right (X ∪ Y) s k = omega arith
 high_right (X ∩ Y) s k = absurd (omega arith)
 high_right (X ∖ Y) s k = absurd (omega arith)
 
-module _ {w : List ℤ} {at n : ℕ} {a : List ℤ} {T : Form} {c : List ℤ} {b : Bool} (f : b ≡ false) (o : Onward w at n a T c b) (k : head o.tree ≡ 19) where
+module _ {w : List ℤ} {at n : ℕ} {a : List ℤ} {T : Form} {c : List ℤ} (o : Onward w at n a T c false) (k : head o.tree ≡ 19) where
   abbrev A : Form
   A = left_of o.tree
 
@@ -354,7 +330,7 @@ module _ {w : List ℤ} {at n : ℕ} {a : List ℤ} {T : Form} {c : List ℤ} {b
   B = right_of o.tree
 
   the_end : A ∪ normalize B ≡ normalize T
-  the_end = sym (last_union o.tree o.held.small k) ∙ subst (λ (x : Bool). Stage T o.tree x) f o.stage
+  the_end = sym (last_union o.tree o.held.small k) ∙ o.stage
 
   end_parts : Parts o.tree (head o.tree) A B
   end_parts = parts_of o.tree o.held.small o.node
@@ -365,19 +341,27 @@ module _ {w : List ℤ} {at n : ℕ} {a : List ℤ} {T : Form} {c : List ℤ} {b
   abbrev pub right_before : List ℤ
   right_before = a ++ (node (head o.tree) (rows_in A) ∷ flat A)
 
-  pub right_ready : {w₀ : List ℤ} {used : ℕ} → Ready w₀ at used a T c → length w ≡ length w₀ → Ready w (at + 1 + rows_in A) n right_before B c
-  right_ready r e = record {
-    held = held_right end_parts o.held;
-    room = omega (arith, r.room, ap rows_in the_end, whole.long);
-    most = omega (arith, r.most, ap rows_in the_end, whole.long);
-  }
+  -- where it stands, by the words of the left part
+  module _ {first : ℕ} (f : first ≡ left_words o.tree) where
+    place : at + 1 + first ≡ at + 1 + rows_in A
+    place = ap (λ (j : ℕ). at + 1 + j) (f ∙ left_words_rows o.tree o.held.small o.node)
 
-  pub right_lower : {d : ℕ} → high T true ≡ d → high (tree_at w (at + 1 + rows_in A)) true < d
-  right_lower e =
-      omega (arith, e, ap (λ (S : Form). high S true) (lies_tree (held_lies (held_right end_parts o.held))), high_right o.tree o.held.small k, o.deep)
+    right_held : Held w (at + 1 + first) n right_before B c
+    right_held = subst (λ (j : ℕ). Held w j n right_before B c) (sym place) (held_right end_parts o.held)
 
-  pub right_done : {w₀ v : List ℤ} {used m : ℕ} → Ready w₀ at used a T c → Held v (at + 1 + rows_in A) m right_before (normalize B) c → Held v at m a (normalize T) c
-  right_done {w₀} {v} {used} {m} r h =
-      subst (λ (N : Form). Held v at m a N c) the_end
-      (from_right whole (small_parts o.tree o.held.small).0 (omega (arith, r.most, ap rows_in the_end)) o.held.before
-      (subst (λ (j : ℕ). Held v (at + 1 + rows_in A) m (a ++ (node j (rows_in A) ∷ flat A)) (normalize B) c) k h))
+    pub right_ready : {w₀ : List ℤ} {used : ℕ} → Ready w₀ at used a T c → length w ≡ length w₀ → Ready w (at + 1 + first) n right_before B c
+    right_ready r e = record {
+      held = right_held;
+      room = omega (arith, r.room, ap rows_in the_end, whole.long, place);
+      most = omega (arith, r.most, ap rows_in the_end, whole.long);
+    }
+
+    pub right_lower : {d : ℕ} → high T true ≡ d → high (tree_at w (at + 1 + first)) true < d
+    right_lower e = omega (arith, e, ap (λ (S : Form). high S true) (lies_tree (held_lies right_held)), high_right o.tree o.held.small k, o.deep)
+
+    pub right_done : {w₀ v : List ℤ} {used m : ℕ} → Ready w₀ at used a T c → Held v (at + 1 + first) m right_before (normalize B) c → Held v at m a (normalize T) c
+    right_done {w₀} {v} {used} {m} r h =
+        subst (λ (N : Form). Held v at m a N c) the_end
+        (from_right whole (small_parts o.tree o.held.small).0 (omega (arith, r.most, ap rows_in the_end)) o.held.before
+        (subst (λ (j : ℕ). Held v j m (a ++ (node 19 (rows_in A) ∷ flat A)) (normalize B) c) place
+        (subst (λ (j : ℕ). Held v (at + 1 + first) m (a ++ (node j (rows_in A) ∷ flat A)) (normalize B) c) k h)))

@@ -1,5 +1,6 @@
 -- Words and trees: what a node's word tells, and where the parts of a node stand in the work area. Assumes nothing.
-use Prim.Native.Nat.{ℕ, ◌+◌, ◌-◌, ◌*◌, ◌/◌, ◌%◌, ◌≤◌, ◌<◌}
+use Prim.Native.Nat.{ℕ, ◌+◌, ◌*◌, ◌/◌, ◌%◌, ◌≤◌, ◌<◌}
+use mathlib.Core.Bool.{true}
 use mathlib.Core.List.{List, [], ◌∷◌, ◌++◌, append_assoc}
 use mathlib.Core.Path.{◌≡◌, refl, sym, ap, subst, ◌∙◌}
 use native.Mathlib.Nat.{add-zero, mod-eq_of_lt, div-eq_of_lt, add-mul-mod_self_left, add-mul-div_left, zero-add}
@@ -8,14 +9,17 @@ use lib.IntN.{ℤ, pos}
 use lib.ListN.{length, length-append, drop, get_or}
 use lib.Seq.{drop_at}
 use Rattle.rules.specs.Form.{Form, leaf, ◌∪◌, ◌∩◌, ◌∖◌}
-use Rattle.rules.specs.Procedure.{normalize}
+use Rattle.rules.specs.Procedure.{is_union, normalize}
 use Rattle.rules.specs.TreeRows.{rows_in}
 use Rattle.paper.specs.Runs.{Taken}
 use Rattle.paper.proofs.Ending.{normalize_runs, normalize_step}
 use Rattle.paper.proofs.Rows.{rows_leaves, cons_at, past}
 use Rattle.paper.proofs.Running.{runs_leaves}
-use Rattle.moves.specs.Moves.{most_words, node}
-use Rattle.normal.specs.Prefix.{flat, head, left_words, left_of, right_of, Small, Lies}
+use Rattle.moves.specs.declared.Operation.{Operation}
+use Rattle.moves.specs.declared.Operation.TheVariants.{Union, Inter, Diff}
+use Rattle.moves.specs.Moves.{most_words, node, operation_number}
+use Rattle.normal.specs.declared.Top.TheVariants.{Primitive, Node}
+use Rattle.normal.specs.Prefix.{top, has_top, flat, head, left_words, left_of, right_of, Small, Lies}
 use Rattle.normal.specs.Held.{Held, Placed}
 
 pub length_flat : (T : Form) → length (flat T) ≡ rows_in T
@@ -115,6 +119,64 @@ head_gap (leaf i) s h = absurd (omega arith)
 head_gap (X ∪ Y) s h = omega arith
 head_gap (X ∩ Y) s h = omega arith
 head_gap (X ∖ Y) s h = omega arith
+
+-- ---- the same, from what stands at its root
+pub number_le : (o : Operation) → (19 ≤ operation_number o) × (operation_number o ≤ 21)
+number_le Union = omega arith
+number_le Inter = omega arith
+number_le Diff = omega arith
+
+pub node_head : (T : Form) (o : Operation) → head T ≡ operation_number o → 16 ≤ head T
+node_head T o e = omega (arith, number_le o)
+
+pub top_primitive : (T : Form) → Small T → {i : ℕ} → Primitive i ≡ top T → (head T ≡ i) × (i < 16)
+unfolding head Small
+top_primitive (leaf j) s {i} e = let f : i ≡ j = cc in (sym f, omega arith)
+top_primitive (X ∪ Y) s e = cc
+top_primitive (X ∩ Y) s e = cc
+top_primitive (X ∖ Y) s e = cc
+
+pub top_node : (T : Form) {o : Operation} → Node o ≡ top T → head T ≡ operation_number o
+unfolding head
+top_node (leaf j) e = cc
+top_node (X ∪ Y) {o} e = let f : Union ≡ o = cc in ap operation_number f
+top_node (X ∩ Y) {o} e = let f : Inter ≡ o = cc in ap operation_number f
+top_node (X ∖ Y) {o} e = let f : Diff ≡ o = cc in ap operation_number f
+
+-- and what stands there, from its number
+pub node_top : (T : Form) → Small T → {n : ℕ} (o : Operation) → n ≡ operation_number o → n ≡ head T → Node o ≡ top T
+unfolding head Small
+node_top (leaf i) s o e f = absurd (omega (arith, number_le o))
+node_top (X ∪ Y) s Union e f = refl
+node_top (X ∪ Y) s Inter e f = absurd (omega arith)
+node_top (X ∪ Y) s Diff e f = absurd (omega arith)
+node_top (X ∩ Y) s Union e f = absurd (omega arith)
+node_top (X ∩ Y) s Inter e f = refl
+node_top (X ∩ Y) s Diff e f = absurd (omega arith)
+node_top (X ∖ Y) s Union e f = absurd (omega arith)
+node_top (X ∖ Y) s Inter e f = absurd (omega arith)
+node_top (X ∖ Y) s Diff e f = refl
+
+pub primitive_top : (T : Form) {n : ℕ} → ((o : Operation) → n ≡ operation_number o → ⊥) → n ≡ head T → Primitive n ≡ top T
+unfolding head
+primitive_top (leaf i) n f = ap Primitive f
+primitive_top (X ∪ Y) n f = absurd (n Union f)
+primitive_top (X ∩ Y) n f = absurd (n Inter f)
+primitive_top (X ∖ Y) n f = absurd (n Diff f)
+
+pub union_is : (T : Form) → has_top Union T ≡ is_union T
+unfolding is_union
+union_is (leaf i) = refl
+union_is (X ∪ Y) = refl
+union_is (X ∩ Y) = refl
+union_is (X ∖ Y) = refl
+
+pub union_head : (T : Form) → is_union T ≡ true → head T ≡ 19
+unfolding head is_union
+union_head (leaf i) e = cc
+union_head (X ∪ Y) e = refl
+union_head (X ∩ Y) e = cc
+union_head (X ∖ Y) e = cc
 
 pub small_parts : (T : Form) → Small T → Small (left_of T) × Small (right_of T)
 unfolding Small left_of right_of

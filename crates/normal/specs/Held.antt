@@ -1,23 +1,27 @@
 -- A tree that stands in the work area: before it the words a, after it c, in use, and then what is not. And what the functions make of it.
-use Rattle.std.specs.Prelude.{ℕ, ◌+◌, ◌*◌, ◌≤◌, ◌<◌, Bool, true, false, List, ◌++◌, ◌≡◌, ℤ, pos, length, get_or, set}
+use Rattle.std.specs.Prelude.{ℕ, ◌+◌, ◌*◌, ◌≤◌, ◌<◌, Bool, true, false, List, ◌++◌, ◌≡◌, ℤ, pos, length, get_or, set, Option, Some, None}
 use Rattle.std.proofs.Math.Option.{none}
 use Rattle.rules.specs.Form.{Form, leaf, ◌∪◌, ◌∩◌, ◌∖◌}
 use Rattle.rules.specs.Procedure.{is_union, lowest, normalize}
 use Rattle.rules.specs.TreeRows.{rows_in}
 use Rattle.paper.specs.Measures.{weight, fitting, high}
 use Rattle.paper.specs.Runs.{Taken}
-use Rattle.moves.specs.Moves.{most_words, IsWord}
-use Rattle.normal.specs.declared.Turn.{Turn}
-use Rattle.normal.specs.Prefix.{flat, head, left_words, left_of, right_of, Small, Lies}
+use Rattle.moves.specs.declared.Operation.{Operation}
+use Rattle.moves.specs.Moves.{most_words, IsWord, operation_number}
+use Rattle.normal.specs.declared.Top.{Top}
+use Rattle.normal.specs.Prefix.{top, has_top, flat, head, left_words, left_of, right_of, Small, Lies}
 
 abbrev pub TreeAt : List ℤ → ℕ → Type 0
 TreeAt w at = (T : Form) × Lies w at T
 
-abbrev pub HeadAt : List ℤ → ℕ → ℕ → Type 0
-HeadAt w at r = (T : Form) → Lies w at T → r ≡ head T
+abbrev pub HeadAt : List ℤ → ℕ → Top → Type 0
+HeadAt w at r = (T : Form) → Lies w at T → r ≡ top T
 
 abbrev pub LeftAt : List ℤ → ℕ → ℕ → Type 0
 LeftAt w at r = (T : Form) → Lies w at T → r ≡ left_words T
+
+abbrev pub StandsAt : List ℤ → ℕ → Operation → Bool → Type 0
+StandsAt w at operation r = (T : Form) → Lies w at T → r ≡ has_top operation T
 
 pub record Held (w : List ℤ) (at used : ℕ) (a : List ℤ) (T : Form) (c : List ℤ) : Type 0 where
   pub rest : List ℤ
@@ -45,26 +49,30 @@ pub record Placed (w : List ℤ) (at right used : ℕ) (a : List ℤ) (T : Form)
 abbrev pub Rewritten : List ℤ → ℕ → ℕ → List ℤ → Form → List ℤ → Type 0
 Rewritten v at n a T c = (U : Form) × Taken T U × Held v at n a U c
 
-abbrev pub OnRight : List ℤ → ℕ → ℕ → ℕ → Type 0
-OnRight w at right used = (a : List ℤ) × (T : Form) × (c : List ℤ) × Placed w at right used a T c × (16 ≤ head (right_of T))
+-- .. both parts of which are known to be k and q
+abbrev pub OnRight : List ℤ → ℕ → ℕ → Operation → Operation → ℕ → Type 0
+OnRight w at right k q used =
+    (a : List ℤ) × (T : Form) × (c : List ℤ) × Placed w at right used a T c × (head T ≡ operation_number k) × (head (right_of T) ≡ operation_number q)
 
-abbrev pub ByRight : List ℤ → List ℤ → ℕ → ℕ → ℕ → ℕ → Type 0
-ByRight w v at right used n = (a : List ℤ) (T : Form) (c : List ℤ) → Placed w at right used a T c → 16 ≤ head (right_of T) → Rewritten v at n a T c
+abbrev pub ByRight : List ℤ → List ℤ → ℕ → ℕ → Operation → Operation → ℕ → ℕ → Type 0
+ByRight w v at right k q used n =
+    (a : List ℤ) (T : Form) (c : List ℤ) → Placed w at right used a T c → head T ≡ operation_number k → head (right_of T) ≡ operation_number q → Rewritten v at n a T c
 
--- a turn: a rewrite, or no rule fits
-abbrev pub Turned : List ℤ → ℕ → ℕ → List ℤ → Form → List ℤ → Bool → Type 0
-Turned v at n a T c true = Rewritten v at n a T c
-Turned v at n a T c false = (lowest T ≡ none) × Held v at n a T c
+-- a turn: a rewrite, and up to where words are in use then, or no rule fits
+abbrev pub Turned : List ℤ → ℕ → ℕ → List ℤ → Form → List ℤ → Option ℕ → Type 0
+Turned v at used a T c (Some n) = Rewritten v at n a T c
+Turned v at used a T c None = (lowest T ≡ none) × Held v at used a T c
 
-abbrev pub OnLeft : List ℤ → ℕ → ℕ → ℕ → Type 0
-OnLeft w at right used = (a : List ℤ) × (T : Form) × (c : List ℤ) × Placed w at right used a T c × (head (right_of T) < 16)
+abbrev pub OnLeft : List ℤ → ℕ → ℕ → Operation → ℕ → ℕ → Type 0
+OnLeft w at right k z used =
+    (a : List ℤ) × (T : Form) × (c : List ℤ) × Placed w at right used a T c × (head T ≡ operation_number k) × (head (right_of T) ≡ z) × (z < 16)
 
-abbrev pub ByLeft : List ℤ → List ℤ → ℕ → ℕ → ℕ → Turn → Type 0
-ByLeft w v at right used r =
-    (a : List ℤ) (T : Form) (c : List ℤ) → Placed w at right used a T c → head (right_of T) < 16 → Turned v at r.used a T c r.took
+abbrev pub ByLeft : List ℤ → List ℤ → ℕ → ℕ → Operation → ℕ → ℕ → Option ℕ → Type 0
+ByLeft w v at right k z used r =
+    (a : List ℤ) (T : Form) (c : List ℤ) → Placed w at right used a T c → head T ≡ operation_number k → head (right_of T) ≡ z → Turned v at used a T c r
 
-abbrev pub Rewrote : List ℤ → List ℤ → ℕ → ℕ → Turn → Type 0
-Rewrote w v at used r = (a : List ℤ) (T : Form) (c : List ℤ) → Ready w at used a T c → Turned v at r.used a T c r.took
+abbrev pub Rewrote : List ℤ → List ℤ → ℕ → ℕ → Option ℕ → Type 0
+Rewrote w v at used r = (a : List ℤ) (T : Form) (c : List ℤ) → Ready w at used a T c → Turned v at used a T c r
 
 -- what stays and what falls from a tree to one that it is rewritten to
 pub record Leads (T U : Form) : Type 0 where

@@ -1,8 +1,12 @@
 -- A tree of numbers in prefix form, a word a node.
-use Rattle.std.specs.Prelude.{ℕ, ◌+◌, ◌≤◌, ◌<◌, List, [], ◌∷◌, ◌++◌, ◌≡◌, ℤ, pos, drop}
+use Rattle.std.specs.Prelude.{ℕ, ◌≤◌, ◌<◌, Bool, true, false, List, [], ◌∷◌, ◌++◌, ◌≡◌, ℤ, pos, drop}
 use Rattle.rules.specs.Form.{Form, leaf, ◌∪◌, ◌∩◌, ◌∖◌}
 use Rattle.rules.specs.TreeRows.{rows_in}
+use Rattle.moves.specs.declared.Operation.{Operation}
+use Rattle.moves.specs.declared.Operation.TheVariants.{Union, Inter, Diff}
 use Rattle.moves.specs.Moves.{most_words, node}
+use Rattle.normal.specs.declared.Top.{Top}
+use Rattle.normal.specs.declared.Top.TheVariants.{Primitive, Node}
 
 -- a node's word, then its left part, then its right one: as many words as the tree has rows
 unfoldable pub flat : Form → List ℤ
@@ -10,6 +14,19 @@ flat (leaf i) = pos i ∷ []
 flat (X ∪ Y) = node 19 (rows_in X) ∷ (flat X ++ flat Y)
 flat (X ∩ Y) = node 20 (rows_in X) ∷ (flat X ++ flat Y)
 flat (X ∖ Y) = node 21 (rows_in X) ∷ (flat X ++ flat Y)
+
+-- what stands at its root
+abbrev pub top : Form → Top
+top (leaf i) = Primitive i
+top (X ∪ Y) = Node Union
+top (X ∩ Y) = Node Inter
+top (X ∖ Y) = Node Diff
+
+abbrev pub has_top : Operation → Form → Bool
+has_top Union (X ∪ Y) = true
+has_top Inter (X ∩ Y) = true
+has_top Diff (X ∖ Y) = true
+has_top operation T = false
 
 -- what a node's word tells: a number or an operation, ..
 unfoldable pub head : Form → ℕ

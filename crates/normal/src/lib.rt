@@ -3,21 +3,27 @@
 #![tactic(auto)]
 
 ghost use Rattle.std.specs.Prelude.{◌+◌, ◌*◌, ◌<◌};
-ghost use Rattle.normal.specs.Held.{HeadAt, LeftAt, TreeAt, NodeAt, Node, OnRight, ByRight, OnLeft, ByLeft, Rewrote, Reduced, Widens, Widened, AgainAt, Normalized};
+ghost use Rattle.normal.specs.Held.{HeadAt, LeftAt, StandsAt, TreeAt, NodeAt, Node, OnRight, ByRight, OnLeft, ByLeft, Rewrote, Reduced, Widens, Widened, AgainAt, Normalized};
 
-// Whether a rewrite was made, and how many words are in use then.
-#[derive(Clone, Copy)]
-pub struct Turn {
-    pub took: bool,
-    pub used: usize,
-}
+use moves::Operation::{self, Diff, Inter, Union};
 
 // What stands at a node: a primitive's number, or an operation.
-pub fn head(w: &[i32], at: usize) -> usize
+#[derive(Clone, Copy, PartialEq, Eq, Debug)]
+pub enum Top {
+    Primitive(usize),
+    Node(Operation),
+}
+
+// What the word at a node says of it.
+pub fn head(w: &[i32], at: usize) -> Top
     requires { TreeAt w.now at }
     ensures { HeadAt w.now at result }
 {
-    w[at] as usize % moves::LEFT_WORDS
+    let number = w[at] as usize % moves::LEFT_WORDS;
+    match Operation::of(number) {
+        Some(operation) => Top::Node(operation),
+        None => Top::Primitive(number),
+    }
 }
 
 // How many words its left part has.
@@ -28,76 +34,92 @@ pub fn left_words(w: &[i32], at: usize) -> usize
     w[at] as usize / moves::LEFT_WORDS
 }
 
-// 1 to 6: the right part is a node.
-fn by_right(w: &mut [i32], at: usize, right: usize, used: usize) -> usize
-    requires { OnRight w.old at right used }
-    ensures { ByRight w.old w.new at right used result }
+// Whether that operation stands at a node.
+fn stands(w: &[i32], at: usize, operation: Operation) -> bool
+    requires { TreeAt w.now at }
+    ensures { StandsAt w.now at operation result }
 {
-    let k = head(w, at);
-    let q = head(w, right);
+    match head(w, at) {
+        Top::Node(other) => other == operation,
+        Top::Primitive(_) => false,
+    }
+}
+
+// 1 to 6: the right part is a node, q; up to where words are in use then.
+fn by_right(
+    w: &mut [i32],
+    at: usize,
+    right: usize,
+    k: Operation,
+    q: Operation,
+    used: usize,
+) -> usize
+    requires { OnRight w.old at right k q used }
+    ensures { ByRight w.old w.new at right k q used result }
+{
     let middle = left_words(w, right);
-    if k == moves::DIFF {
-        if q == moves::UNION {
-            moves::lean(w, at, right, middle, moves::DIFF, moves::DIFF);
-            return used;
+    match (k, q) {
+        (Diff, Union) => {
+            moves::lean(w, at, right, middle, Diff, Diff);
+            used
         }
-        if q == moves::INTER {
-            return moves::split(w, at, right, middle, moves::DIFF, moves::DIFF, used);
+        (Inter, Union) => moves::split(w, at, right, middle, Inter, Inter, used),
+        (Diff, Inter) => moves::split(w, at, right, middle, Diff, Diff, used),
+        (Inter, Inter) => {
+            moves::lean(w, at, right, middle, Inter, Inter);
+            used
         }
-        return moves::split(w, at, right, middle, moves::DIFF, moves::INTER, used);
+        (Diff, Diff) => moves::split(w, at, right, middle, Diff, Inter, used),
+        (Inter, Diff) => {
+            moves::lean(w, at, right, middle, Diff, Inter);
+            used
+        }
+        // No call has a union here: `rewrite` leaves it as it is.
+        (Union, _) => used,
     }
-    if q == moves::UNION {
-        return moves::split(w, at, right, middle, moves::INTER, moves::INTER, used);
-    }
-    if q == moves::INTER {
-        moves::lean(w, at, right, middle, moves::INTER, moves::INTER);
-        return used;
-    }
-    moves::lean(w, at, right, middle, moves::DIFF, moves::INTER);
-    used
 }
 
-// 6.5, 7 and 8: the right part is a primitive.
-fn by_left(w: &mut [i32], at: usize, right: usize, used: usize) -> Turn
-    requires { OnLeft w.old at right used }
-    ensures { ByLeft w.old w.new at right used result }
+// 6.5, 7 and 8: the right part is the primitive z; up to where words are in use then, if a rule fits.
+fn by_left(
+    w: &mut [i32],
+    at: usize,
+    right: usize,
+    k: Operation,
+    z: usize,
+    used: usize,
+) -> Option<usize>
+    requires { OnLeft w.old at right k z used }
+    ensures { ByLeft w.old w.new at right k z used result }
 {
-    let k = head(w, at);
-    let p = head(w, at + 1);
     let first = left_words(w, at + 1);
-    let z = head(w, right);
-    if p == moves::UNION {
-        let n = moves::share(w, at, first, right, k, z, used);
-        return Turn {
-            took: true,
-            used: n,
-        };
-    }
-    if p == moves::DIFF {
-        if k == moves::INTER {
+    let Top::Node(p) = head(w, at + 1) else {
+        return None;
+    };
+    match (k, p) {
+        (_, Union) => Some(moves::share(w, at, first, right, k, z, used)),
+        (Inter, Diff) => {
             moves::swap(w, at, first, right, z);
-            return Turn { took: true, used };
+            Some(used)
         }
+        _ => None,
     }
-    Turn { took: false, used }
 }
 
-// One rewrite at the node: the lowest number that fits.
-pub fn rewrite(w: &mut [i32], at: usize, used: usize) -> Turn
+// One rewrite at the node, by the lowest number that fits; up to where words are in use then.
+pub fn rewrite(w: &mut [i32], at: usize, used: usize) -> Option<usize>
     requires { Node w.old at used }
     ensures { Rewrote w.old w.new at used result }
 {
-    if head(w, at) < moves::INTER {
-        return Turn { took: false, used };
+    let Top::Node(k) = head(w, at) else {
+        return None;
+    };
+    if k == Union {
+        return None;
     }
     let right = at + 1 + left_words(w, at);
-    if head(w, right) < moves::OPERATIONS {
-        return by_left(w, at, right, used);
-    }
-    let n = by_right(w, at, right, used);
-    Turn {
-        took: true,
-        used: n,
+    match head(w, right) {
+        Top::Primitive(z) => by_left(w, at, right, k, z, used),
+        Top::Node(q) => Some(by_right(w, at, right, k, q, used)),
     }
 }
 
@@ -107,11 +129,8 @@ pub fn reduce(w: &mut [i32], at: usize, used: usize) -> usize
     ensures { Reduced w.old w.new at used result }
 {
     let mut n = used;
-    let mut fits = true;
-    while fits {
-        let s = rewrite(w, at, n);
-        n = s.used;
-        fits = s.took;
+    while let Some(m) = rewrite(w, at, n) {
+        n = m;
     }
     n
 }
@@ -122,7 +141,7 @@ fn widen(w: &mut [i32], at: usize, more: usize)
     ensures { Widened w.old w.new at more }
 {
     let x = w[at] as usize;
-    moves::put(w, at, x + moves::LEFT_WORDS * more);
+    moves::put(w, at, &[x + moves::LEFT_WORDS * more]);
 }
 
 // The left part of an intersection or a difference came to a union.
@@ -130,10 +149,7 @@ fn again(w: &[i32], at: usize) -> bool
     requires { NodeAt w.now at }
     ensures { AgainAt w.now at result }
 {
-    if head(w, at) == moves::UNION {
-        return false;
-    }
-    head(w, at + 1) == moves::UNION
+    !stands(w, at, Union) && stands(w, at + 1, Union)
 }
 
 // The tree at the node, normalized; up to where words are in use then.
@@ -141,18 +157,19 @@ pub fn normalize(w: &mut [i32], at: usize, used: usize) -> usize
     requires { Node w.old at used }
     ensures { Normalized w.old w.new at used result }
 {
-    if head(w, at) < moves::OPERATIONS {
+    let Top::Node(_) = head(w, at) else {
         return used;
-    }
+    };
     let mut n = used;
-    let mut going = true;
-    while going {
+    loop {
         let start = reduce(w, at, n);
         n = normalize(w, at + 1, start);
         widen(w, at, n - start);
-        going = again(w, at);
+        if !again(w, at) {
+            break;
+        }
     }
-    if head(w, at) != moves::UNION {
+    if !stands(w, at, Union) {
         return n;
     }
     let right = at + 1 + left_words(w, at);

@@ -2,7 +2,7 @@
 use Rattle.std.specs.Prelude.{Ok, Err}
 use Prim.Native.Nat.{ℕ, ◌+◌, ◌-◌, ◌*◌, ◌≤◌, ◌<◌}
 use mathlib.Core.Bool.{Bool, true, false, ◌&&◌, ◌||◌}
-use mathlib.Core.List.{List, [], ◌∷◌, ◌++◌}
+use mathlib.Core.List.{List, [], ◌∷◌, ◌++◌, append-nil}
 use mathlib.Core.Logic.{◌⊎◌, inl, inr}
 use mathlib.Core.Option.{Option, none, some}
 use mathlib.Core.Path.{◌≡◌, refl, sym, ap, ap₂, ◌∙◌}
@@ -11,7 +11,7 @@ use native.Mathlib.Omega.{arith}
 use borrow.Author.Tests.{ltb-true, ltb-false, le-leb, lt-leb}
 use lib.Dec.{leb, ltb}
 use lib.IntN.{ℤ, pos}
-use lib.ListN.{length, drop, replicate}
+use lib.ListN.{length, length-drop, length-replicate, drop, replicate}
 use lib.Seq.{sets, sets-eq, length-sets}
 use Rattle.ground.specs.Lists.{first_of}
 use Rattle.ground.proofs.Branches.{or_cases}
@@ -38,7 +38,6 @@ use Rattle.moves.specs.Moves.{most_words}
 use Rattle.normal.specs.Held.{Ready}
 use Rattle.normal.specs.Prefix.{flat}
 use Rattle.normal.proofs.Words.{length_flat}
-use Rattle.finished.proofs.Laws.{nothing_past}
 use Rattle.flatten.specs.Forms.{Laid}
 use Rattle.rewrite.specs.Limits.{Limits, Finished}
 use Rattle.rewrite.proofs.Numbers.{root_small}
@@ -57,6 +56,17 @@ too_short a b h = go (or_cases (ltb a rewrite_words) (ltb b rewrite_words) h)
 
 pub long_enough : (a b : ℕ) → (ltb a rewrite_words || ltb b rewrite_words) ≡ false → (rewrite_words ≤ a) × (rewrite_words ≤ b)
 long_enough a b h = let e = or_false (ltb a rewrite_words) (ltb b rewrite_words) h in (ltb-false a rewrite_words e.0, ltb-false b rewrite_words e.1)
+
+-- ---- an area cleared to its end
+none_left : (n : ℕ) (l : List ℤ) → length l ≡ n - n → l ≡ []
+none_left n [] e = refl
+none_left n (x ∷ xs) e = absurd (omega arith)
+
+nothing_past : (w : List ℤ) → replicate (length w) (pos 0) ++ drop (length (replicate (length w) (pos 0))) w ≡ replicate (length w) (pos 0)
+nothing_past w =
+    ap (λ (l : List ℤ). replicate (length w) (pos 0) ++ l)
+    (ap (λ (n : ℕ). drop n w) (length-replicate (length w) (pos 0)) ∙ none_left (length w) (drop (length w) w) (length-drop (length w) w))
+    ∙ append-nil (replicate (length w) (pos 0))
 
 -- ---- the rules in their order
 module _ (t before work : List ℤ) where

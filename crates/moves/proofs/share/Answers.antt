@@ -1,17 +1,22 @@
 use Prim.Native.Nat.{◌+◌, ◌-◌, ◌*◌}
+use native.Mathlib.Omega.{arith}
 use mathlib.Core.Path.{refl}
 use lib.IntN.{pos}
+use Rattle.moves.specs.Moves.{operation_number}
+use Rattle.moves.proofs.Moving.{opened}
 use Rattle.moves.proofs.Parts.{put_as, shared}
 use Rattle.moves.proofs.share.Goals as goal
 
 pub returns : goal.returns
 returns c =
-    let S = c.before.before.before.before.before.before.before.before.before.before.before.before in
-    let first = S.args.first in
-    let place = S.args.at + 2 + first in
+    let at = c.args.at in
+    let first = c.args.first in
+    let right = c.args.right in
+    let place = at + 2 + first in
+    let k = operation_number c.args.k in
     λ a x y e d h q is ha hx hy hu. (
       refl,
-      shared S.args.k a x y e d h q (pos S.args.z) is ha hx hy hu c.make_room.ensures
-          (put_as _ _ place S.args.z (S.args.k + 32 * (S.args.right - place)) refl c.word.ensures.0 c.put_two.ensures)
-          (put_as _ _ S.args.at (19 + 32 * (first + 2)) (S.args.k + 32 * first) c.word-2.ensures.0 c.word-3.ensures.0 c.put_two-2.ensures),
+      shared k a x y e d h q (pos c.args.z) is ha hx hy hu (opened place 2 c.args.used c.copy_within.ensures.after (omega arith) (omega arith))
+          (put_as _ place c.args.z (k + 32 * (right - place)) refl c.word.ensures.value c.put.ensures)
+          (put_as _ at (19 + 32 * (first + 2)) (k + 32 * first) c.word-2.ensures.value c.word-3.ensures.value c.put-2.ensures),
     )

@@ -1,27 +1,31 @@
 use Prim.Native.Nat.{ℕ, ◌+◌, ◌-◌}
-use mathlib.Core.List.{List, ◌∷◌, ◌++◌}
-use mathlib.Core.Path.{◌≡◌, sym, ap, subst, ◌∙◌}
+use mathlib.Core.List.{[], ◌∷◌, ◌++◌}
+use mathlib.Core.Path.{◌≡◌, sym, ap, ◌∙◌}
 use native.Mathlib.Omega.{arith}
 use lib.IntN.{ℤ, pos}
-use lib.ListN.{length, drop, set}
-use Rattle.moves.specs.Moves.{node, Copied}
+use lib.ListN.{length, drop}
+use lib.Seq.{sets}
+use Rattle.std.specs.List.{copy_within}
+use Rattle.moves.specs.Moves.{node, operation_number}
+use Rattle.moves.proofs.Moving.{opened, copies}
 use Rattle.moves.proofs.Parts.{split_up}
 use Rattle.moves.proofs.split.Goals as goal
 
 pub returns : goal.returns
 returns c =
-    let S = c.before.before.before.before.before.before.before.before.before.before.before.before.before in
-    let at = S.args.at in
-    let n = S.args.right - at - 1 in
+    let at = c.args.at in
+    let n = c.args.right - at - 1 in
+    let place = c.args.right + 1 + c.args.middle in
     λ a x y e d k q is ha hx hy hu.
     let l : n ≡ length x = omega arith in
-    let p : ℤ = node 19 (1 + length x + S.args.middle) in
-    let r : ℤ = node S.args.r (length x) in (
+    let p : ℤ = node 19 (1 + length x + c.args.middle) in
+    let r : ℤ = node (operation_number c.args.r) (length x) in
+    let t : ℕ → ℤ = node (operation_number c.args.s) in
+    let g : c.put.new.w ≡ sets c.copy_within.new.self place (t n ∷ []) =
+    c.put.ensures ∙ ap (λ (z : ℕ). sets c.copy_within.new.self place (pos z ∷ [])) c.word.ensures.value in (
       omega arith,
-      split_up p r (node S.args.s n) a x y e d (c.lean.ensures a x (y ++ (e ++ d)) k q is ha hx) ha (sym l) (omega arith) (omega arith)
-          c.make_room.ensures
-          (subst (λ (u : List ℤ). Copied u c.copy.new.w (at + 2) (S.args.right + 1 + S.args.middle + 1) n)
-          (c.put.ensures ∙ ap (λ (z : ℕ). set c.make_room.new.w (S.args.right + 1 + S.args.middle) (pos z)) c.word.ensures.0)
-          c.copy.ensures)
-          ∙ ap (λ (j : ℕ). a ++ (p ∷ (r ∷ (x ++ (y ++ (node S.args.s j ∷ (x ++ (e ++ drop (j + 1) d)))))))) l,
+      split_up p r (t n) a x y e d (c.lean.ensures a x (y ++ (e ++ d)) k q is ha hx) ha (sym l) (omega arith) (omega arith)
+          (opened place (n + 1) c.args.used c.copy_within.ensures.after (omega arith) (omega arith))
+          (copies (at + 2) (place + 1) n (c.copy_within-2.ensures.after ∙ ap (λ w. copy_within w (at + 2) (at + 2 + n) (place + 1)) g))
+          ∙ ap (λ (j : ℕ). a ++ (p ∷ (r ∷ (x ++ (y ++ (t j ∷ (x ++ (e ++ drop (j + 1) d)))))))) l,
     )

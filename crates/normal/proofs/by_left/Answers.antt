@@ -1,91 +1,79 @@
 -- 6.5, 7 and 8: the right part is a primitive. Assumes nothing.
-use Prim.Native.Nat.{◌<◌}
+use Prim.Native.Nat.{◌<◌, ◌≤◌}
 use native.Mathlib.Omega.{arith}
-use mathlib.Core.List.{List}
-use mathlib.Core.Path.{◌≡◌, sym, ◌∙◌}
-use lib.IntN.{ℤ}
-use Rattle.rules.specs.Form.{Form}
-use Rattle.normal.specs.Prefix.{head, left_words, left_of, right_of}
-use Rattle.normal.specs.Held.{Placed}
-use Rattle.normal.proofs.Words.{head_le, held_lies, placed_left, placed_right}
+use mathlib.Core.Path.{◌≡◌, refl, sym, ap, ◌∙◌}
+use Rattle.moves.specs.declared.Operation.{Operation}
+use Rattle.moves.specs.declared.Operation.TheVariants.{Union, Inter, Diff}
+use Rattle.moves.specs.Moves.{operation_number}
+use Rattle.normal.specs.Prefix.{head, left_of, right_of}
+use Rattle.normal.proofs.Words.{top_primitive, top_node, node_head, placed_left, placed_small}
 use Rattle.normal.proofs.Lefts.{still_left, swap_in, rule_65, share_in, rule_78}
-use Rattle.normal.proofs.by_left.Lts as lts
-use Rattle.normal.proofs.by_left.Tie as tie
-use Rattle.normal.proofs.by_left.Reads as reads
 use Rattle.normal.proofs.by_left.Goals as goal
 
-abbrev After-head3 : Type 0
-After-head3 = lts.After-head3 tie.the-claims reads.Pre reads.Post tie.handed_clauses
-
--- what was read of the node and its parts
-module _ (d : After-head3) {a : List ℤ} {T : Form} {c : List ℤ}
-    (p : Placed d.args.w.now d.args.at d.args.right d.args.used a T c) where
-  node_is : d.head-k.result ≡ head T
-  node_is = d.head-k.ensures T (held_lies p.ready.held)
-
-  left_is : d.head-p.result ≡ head (left_of T)
-  left_is = d.head-p.ensures (left_of T) (placed_left p)
-
-  first : d.left_words-first.result ≡ left_words (left_of T)
-  first = d.left_words-first.ensures (left_of T) (placed_left p)
-
-  right_is : d.head-z.result ≡ head (right_of T)
-  right_is = d.head-z.ensures (right_of T) (placed_right p)
-
-  small_node : d.head-k.result < 32
-  small_node = omega (arith, node_is, head_le T p.ready.held.small)
-
-pub head-k-requires : goal.head-k-requires
-head-k-requires c = let S = c in (S.requires.1, held_lies S.requires.3.ready.held)
-
-pub head-p-requires : goal.head-p-requires
-head-p-requires c = let S = c.before in (left_of S.requires.1, placed_left S.requires.3)
+is_inter : (o : Operation) → operation_number o ≡ 20 → o ≡ Inter
+is_inter Union e = absurd (omega arith)
+is_inter Inter e = refl
+is_inter Diff e = absurd (omega arith)
 
 pub left_words-first-requires : goal.left_words-first-requires
-left_words-first-requires c = let S = c.before.before in (left_of S.requires.1, placed_left S.requires.3)
+left_words-first-requires c = (left_of c.requires.1, placed_left c.requires.3)
 
-pub head-z-requires : goal.head-z-requires
-head-z-requires c = let S = c.before.before.before in (right_of S.requires.1, placed_right S.requires.3)
+pub head-requires : goal.head-requires
+head-requires c = (left_of c.requires.1, placed_left c.requires.3)
 
-pub share-n-requires : goal.share-n-requires
-share-n-requires c =
-    let d = c.before.before in
-    let S = d.before.before.before.before in
-    let p = S.requires.3 in
-    let e : head (left_of S.requires.1) ≡ 19 = sym (left_is d p) ∙ c.if-p-eq-UNION.true in
-    let i = share_in p S.requires.4 (omega arith) e (first d p) in record { first_bound = (i.0, i.1, i.2); k_bound = (small_node d p, omega (arith, right_is d p, S.requires.4), i.3) }
+pub returns-in_default : goal.returns-in_default
+returns-in_default c = λ a T e p k z.
+    let i = top_primitive (left_of T) (placed_small p).0 (c.in_default.ensures (left_of T) (placed_left p)) in
+    (still_left T p.ready.held.small p.node (omega (arith, c.requires.6)) (λ x. omega arith) (λ x y. omega arith), p.ready.held)
 
-pub returns-then-p-eq-UNION : goal.returns-then-p-eq-UNION
-returns-then-p-eq-UNION c =
-    let d = c.before.before.before.before in
-    λ a T e p g.
-    let f : head (left_of T) ≡ 19 = sym (left_is d p) ∙ c.if-p-eq-UNION.true in
-    rule_78 p g (omega arith) f (first d p) (node_is d p) (right_is d p) c.share-n.ensures
+pub share-requires : goal.share-requires
+share-requires c =
+    let p = c.requires.3 in
+    let L = left_of c.requires.1 in
+    let g : head (right_of c.requires.1) < 16 = omega (arith, c.requires.5, c.requires.6) in
+    let e : head L ≡ 19 = top_node L (c.in-Node.ensures L (placed_left p)) ∙ ap operation_number c.in_default-Union.is-1 in
+    let i = share_in p g (omega arith) e (c.left_words-first.ensures L (placed_left p)) in record {
+      right_in_bounds = (i.0, i.1, i.2);
+      few = i.3;
+      is_primitive = c.requires.6;
+    }
+
+pub returns-in_default-Union : goal.returns-in_default-Union
+returns-in_default-Union c = λ a T e p k z.
+    let L = left_of T in
+    let g : head (right_of T) < 16 = omega (arith, z, c.requires.6) in
+    let f : head L ≡ 19 = top_node L (c.in-Node.ensures L (placed_left p)) ∙ ap operation_number c.in_default-Union.is-1 in
+    rule_78 p g (omega arith) f (c.left_words-first.ensures L (placed_left p)) (sym k) (sym z) c.share.ensures
 
 pub swap-requires : goal.swap-requires
 swap-requires c =
-    let d = c.before.before.before.before in
-    let S = d.before.before.before.before in
-    let p = S.requires.3 in
-    let e : head (left_of S.requires.1) ≡ 21 = sym (left_is d p) ∙ c.if-p-eq-DIFF.true in
-    let i = swap_in p S.requires.4 (omega arith) (first d p) in
-    (i.0, i.1, i.2, omega (arith, right_is d p, S.requires.4))
+    let p = c.requires.3 in
+    let L = left_of c.requires.1 in
+    let g : head (right_of c.requires.1) < 16 = omega (arith, c.requires.5, c.requires.6) in
+    let n : 16 ≤ head L = node_head L c.in-Node.p (top_node L (c.in-Node.ensures L (placed_left p))) in
+    let i = swap_in p g n (c.left_words-first.ensures L (placed_left p)) in record {
+      right_in_bounds = (i.0, i.1);
+      few = i.2;
+      is_primitive = c.requires.6;
+    }
 
-pub returns-then-k-eq-INTER : goal.returns-then-k-eq-INTER
-returns-then-k-eq-INTER c =
-    let d = c.before.before.before.before.before.before in
-    λ a T e p g.
-    let f : head (left_of T) ≡ 21 = sym (left_is d p) ∙ c.if-p-eq-DIFF.true in
-    rule_65 p g (omega arith) (first d p) (right_is d p) (sym (node_is d p) ∙ c.if-k-eq-INTER.true) f c.swap.ensures
+pub returns-in-Inter-Diff : goal.returns-in-Inter-Diff
+returns-in-Inter-Diff c = λ a T e p k z.
+    let L = left_of T in
+    let g : head (right_of T) < 16 = omega (arith, z, c.requires.6) in
+    let f : head L ≡ 21 = top_node L (c.in-Node.ensures L (placed_left p)) ∙ ap operation_number c.in-Inter-Diff.is-1 in
+    rule_65 p g (omega arith) (c.left_words-first.ensures L (placed_left p)) (sym z) (k ∙ ap operation_number c.in-Inter-Diff.is-0) f c.swap.ensures
 
-pub returns-else-k-eq-INTER : goal.returns-else-k-eq-INTER
-returns-else-k-eq-INTER c =
-    let d = c.before.before.before in
-    λ a T e p g.
-    (still_left T p.ready.held.small p.node g (λ x. c.if-p-eq-UNION.false (left_is d p ∙ x)) (λ x y. c.if-k-eq-INTER.false (node_is d p ∙ y)), p.ready.held)
+-- the left part is a difference, and the node is no intersection
+pub returns-in_default-2 : goal.returns-in_default-2
+returns-in_default-2 c = λ a T e p k z.
+    let L = left_of T in
+    let f : head L ≡ 21 = top_node L (c.in-Node.ensures L (placed_left p)) ∙ ap operation_number c.in_default-2.is-1 in
+    (still_left T p.ready.held.small p.node (omega (arith, z, c.requires.6)) (λ x. omega arith) (λ x y. c.in_default-2.not-Inter-0 (is_inter c.args.k (sym k ∙ y))), p.ready.held)
 
-pub returns-else-p-eq-DIFF : goal.returns-else-p-eq-DIFF
-returns-else-p-eq-DIFF c =
-    let d = c.before.before in
-    λ a T e p g.
-    (still_left T p.ready.held.small p.node g (λ x. c.if-p-eq-UNION.false (left_is d p ∙ x)) (λ x y. c.if-p-eq-DIFF.false (left_is d p ∙ x)), p.ready.held)
+-- the left part is an intersection
+pub returns-in_default-2-2 : goal.returns-in_default-2-2
+returns-in_default-2-2 c = λ a T e p k z.
+    let L = left_of T in
+    let f : head L ≡ 20 = top_node L (c.in-Node.ensures L (placed_left p)) ∙ ap operation_number c.in_default-2.is-1 in
+    (still_left T p.ready.held.small p.node (omega (arith, z, c.requires.6)) (λ x. omega arith) (λ x y. omega arith), p.ready.held)
