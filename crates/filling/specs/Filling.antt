@@ -1,58 +1,81 @@
 -- Rows whose masks are filled in from those of the leaves, from the last row to the first.
-use Rattle.std.specs.Prelude.{ℕ, ◌+◌, ◌*◌, ◌≤◌, ◌<◌, Bool, false, ◌&&◌, ◌||◌, List, [], ◌∷◌, ◌≡◌, ltb, eqb, get_or, if◌then◌else◌}
+use Rattle.std.specs.Prelude.{ℕ, ◌+◌, ◌≤◌, ◌<◌, Bool, true, false, ◌&&◌, ◌||◌, List, ◌≡◌, get_or, if◌then◌else◌}
 use Rattle.std.specs.Int.Bits.{bit_and, bit_or}
-use Rattle.std.proofs.lemmas.List.Edits.{sets}
 use Rattle.laws.specs.Plans.{Plan, with_it, without, mask, blank}
 use Rattle.rows.specs.Masks.{span, risk}
-use Rattle.rows.specs.Rows.{kind_at, left_at, below_at, span_at, risk_at, plan_in}
-
--- the plan of a leaf
-abbrev pub leaf_plan : ℕ → ℕ → Plan
-leaf_plan kind number = if◌then◌else◌ (eqb kind 0) (with_it number) (without number)
+use Rattle.rows.specs.declared.RowKind.{RowKind}
+use Rattle.rows.specs.declared.RowKind.TheVariants.{With, Without, Either, Both}
+use Rattle.rows.specs.declared.Masks.{Masks}
+use Rattle.rows.specs.declared.PlanRow.{PlanRow}
+use Rattle.rows.specs.Rows.{links_at, masks_at, kind_at, left_at, plan_in, with_masks}
 
 module _ (meets : List ℕ) (seen : ℕ) where
-  -- the masks of a row are those of a plan
-  pub record MasksOf (masks : List ℕ) (x : ℕ) (p : Plan) : Type 0 where
-    pub below : below_at masks x ≡ mask p
-    pub spans : span_at masks x ≡ span meets seen p
-    pub risky : risk_at masks x ≡ risk p
+  -- masks are those of a plan
+  pub record MasksOf (masks : Masks) (p : Plan) : Type 0 where
+    pub below : masks.below ≡ mask p
+    pub spans : masks.span ≡ span meets seen p
+    pub risky : masks.risk ≡ risk p
+
+  -- a leaf has its masks; of a row with two parts nothing is said
+  abbrev pub LeafMasks : RowKind → ℕ → Masks → Type 0
+  LeafMasks With number masks = MasksOf masks (with_it number)
+  LeafMasks Without number masks = MasksOf masks (without number)
+  LeafMasks Either number masks = Unit {0}
+  LeafMasks Both number masks = Unit {0}
 
   -- of the first rows, each leaf has its masks
-  abbrev pub LeavesTo : List ℕ → List ℕ → ℕ → Type 0
-  LeavesTo links masks rows = (y : ℕ) → y < rows → kind_at links y < 2 → MasksOf masks y (leaf_plan (kind_at links y) (left_at links y))
+  abbrev pub LeavesTo : List PlanRow → ℕ → Type 0
+  LeavesTo rows n = (y : ℕ) → y < n → LeafMasks (kind_at rows y) (left_at rows y) (masks_at rows y)
 
   -- the rows from x to the end have their masks
-  abbrev pub FullFrom : List ℕ → List ℕ → ℕ → ℕ → Type 0
-  FullFrom links masks end x = (y : ℕ) → x ≤ y → y < end → MasksOf masks y (plan_in links y)
+  abbrev pub FullFrom : List PlanRow → ℕ → ℕ → Type 0
+  FullFrom rows end x = (y : ℕ) → x ≤ y → y < end → MasksOf (masks_at rows y) (plan_in rows y)
 
 -- whether some choice of a row comes to nothing, from x to the end
-abbrev pub HolesFrom : List ℕ → List Bool → ℕ → ℕ → Type 0
-HolesFrom links holes end x = (y : ℕ) → x ≤ y → y < end → get_or holes y false ≡ blank (plan_in links y) 0
+abbrev pub HolesFrom : List PlanRow → List Bool → ℕ → ℕ → Type 0
+HolesFrom rows holes end x = (y : ℕ) → x ≤ y → y < end → get_or holes y false ≡ blank (plan_in rows y) 0
 
--- masks of the leaves become masks of all rows
-abbrev pub Fills : List ℕ → List ℕ → List ℕ → ℕ → ℕ → Type 0
-Fills links before after end x = (meets : List ℕ) (seen : ℕ) → LeavesTo meets seen links before end → LeavesTo meets seen links after end × FullFrom meets seen links after end x
+-- with the same links, masks of the leaves become masks of all rows from x on
+pub record Fills (before after : List PlanRow) (end x : ℕ) : Type 0 where
+  pub links : (y : ℕ) → links_at after y ≡ links_at before y
+  pub masks : (meets : List ℕ) (seen : ℕ) → LeavesTo meets seen before end → LeavesTo meets seen after end × FullFrom meets seen after end x
 
 -- an inner row's masks, by those of its parts; `hollow` says that both parts have a choice that comes to nothing
-abbrev pub either_masks : List ℕ → Bool → ℕ → ℕ → List ℕ
-either_masks masks hollow left right = bit_or (below_at masks left) (below_at masks right) ∷ bit_or (span_at masks left) (span_at masks right)
-    ∷ bit_or (if◌then◌else◌ hollow (below_at masks right) 0) (bit_or (risk_at masks left) (risk_at masks right)) ∷ []
+abbrev pub either_masks : Bool → Masks → Masks → Masks
+either_masks hollow left right = record {
+  below = bit_or left.below right.below;
+  span = bit_or left.span right.span;
+  risk = bit_or (if◌then◌else◌ hollow right.below 0) (bit_or left.risk right.risk);
+}
 
-abbrev pub both_masks : List ℕ → ℕ → ℕ → List ℕ
-both_masks masks left right = bit_or (below_at masks left) (below_at masks right) ∷ bit_and (span_at masks left) (span_at masks right) ∷ bit_or (risk_at masks left) (risk_at masks right) ∷ []
+abbrev pub both_masks : Masks → Masks → Masks
+both_masks left right = record { below = bit_or left.below right.below; span = bit_and left.span right.span; risk = bit_or left.risk right.risk }
 
 -- what a row has, by its kind and its parts
-module _ (links : List ℕ) (holes : List Bool) (row : ℕ) where
+module _ (rows : List PlanRow) (holes : List Bool) (x : ℕ) where
   abbrev pub left_hole : Bool
-  left_hole = get_or holes (left_at links row) false
+  left_hole = get_or holes (left_at rows x) false
 
   abbrev pub right_hole : Bool
-  right_hole = get_or holes (row + 1) false
+  right_hole = get_or holes (x + 1) false
+
+  abbrev pub hole_by : RowKind → Bool
+  hole_by With = false
+  hole_by Without = true
+  hole_by Either = left_hole || right_hole
+  hole_by Both = left_hole && right_hole
 
   abbrev pub hole_of : Bool
-  hole_of = if◌then◌else◌ (ltb (kind_at links row) 2) (eqb (kind_at links row) 1) (if◌then◌else◌ (eqb (kind_at links row) 2) (left_hole || right_hole) (left_hole && right_hole))
+  hole_of = hole_by (kind_at rows x)
 
-  abbrev pub filled_in : List ℕ → List ℕ
-  filled_in masks =
-      if◌then◌else◌ (ltb (kind_at links row) 2) masks
-      (sets masks (row * 3) (if◌then◌else◌ (eqb (kind_at links row) 2) (either_masks masks (left_hole && right_hole) (left_at links row) (row + 1)) (both_masks masks (left_at links row) (row + 1))))
+  abbrev pub filled_by : RowKind → List PlanRow
+  filled_by With = rows
+  filled_by Without = rows
+  filled_by Either = with_masks rows x (either_masks (left_hole && right_hole) (masks_at rows (left_at rows x)) (masks_at rows (x + 1)))
+  filled_by Both = with_masks rows x (both_masks (masks_at rows (left_at rows x)) (masks_at rows (x + 1)))
+
+  abbrev pub filled_row : List PlanRow
+  filled_row = filled_by (kind_at rows x)
+
+abbrev pub filled_in : List Bool → ℕ → List PlanRow → List PlanRow
+filled_in holes x rows = filled_row rows holes x

@@ -2,78 +2,65 @@
 
 #![tactic(auto)]
 
-ghost use Rattle.std.specs.Prelude.{◌+◌, ◌*◌, ◌<◌, ◌≡◌, length, set, if◌then◌else◌};
-ghost use Rattle.std.proofs.lemmas.List.Edits.{sets};
+ghost use Rattle.std.specs.Prelude.{◌+◌, ◌<◌, ◌≡◌, set};
 ghost use Rattle.rows.specs.Rows.{kind_at, left_at, Inner, SoundLinks};
 ghost use Rattle.filling.specs.Filling.{either_masks, both_masks, hole_of, filled_in, Fills};
 
-use rows::fields;
-
-fn only_if(test: bool, set: u64) -> u64
-    ensures { result ≡ (if test then set else 0) }
-{
-    if test {
-        return set;
-    }
-    0
-}
+use rows::{Masks, PlanRow, RowKind};
 
 // The masks of an `either` by those of its parts; its own risk is the right part, where both parts can come to nothing.
-fn fill_either(masks: &mut [u64; 381], row: usize, left: usize, hollow: bool)
-    requires { (row + 1 < 127) × (left < 127) }
-    ensures { masks.new ≡ sets masks.old (row * 3) (either_masks masks.old hollow left (row + 1)) }
+fn either_of(left: Masks, right: Masks, hollow: bool) -> Masks
+    ensures { result ≡ either_masks hollow left right }
 {
-    let right = fields::below(masks, row + 1);
-    let own = only_if(hollow, right);
-    let below = fields::below(masks, left) | right;
-    let span = fields::span(masks, left) | fields::span(masks, row + 1);
-    let risk = own | (fields::risk(masks, left) | fields::risk(masks, row + 1));
-    rows::put_masks(masks, row, below, span, risk);
+    let own = if hollow { right.below } else { 0 };
+    Masks {
+        below: left.below | right.below,
+        span: left.span | right.span,
+        risk: own | (left.risk | right.risk),
+    }
 }
 
 // The masks of a `both` by those of its parts.
-fn fill_both(masks: &mut [u64; 381], row: usize, left: usize)
-    requires { (row + 1 < 127) × (left < 127) }
-    ensures { masks.new ≡ sets masks.old (row * 3) (both_masks masks.old left (row + 1)) }
+fn both_of(left: Masks, right: Masks) -> Masks
+    ensures { result ≡ both_masks left right }
 {
-    let below = fields::below(masks, left) | fields::below(masks, row + 1);
-    let span = fields::span(masks, left) & fields::span(masks, row + 1);
-    let risk = fields::risk(masks, left) | fields::risk(masks, row + 1);
-    rows::put_masks(masks, row, below, span, risk);
+    Masks {
+        below: left.below | right.below,
+        span: left.span & right.span,
+        risk: left.risk | right.risk,
+    }
 }
 
 // The masks of a row, where those of later rows are there, and whether some choice of it comes to nothing.
-fn fill_row(links: &[u8; 508], masks: &mut [u64; 381], holes: &mut [bool; 127], row: usize)
-    requires { (row < 127) × (Inner (kind_at links.now row) → (row + 1 < left_at links.now row) × (left_at links.now row < 127)) }
-    ensures masks_after { masks.new ≡ filled_in links.now holes.old row masks.old }
-    ensures holes_after { holes.new ≡ set holes.old row (hole_of links.now holes.old row) }
+fn fill_row(rows: &mut [PlanRow; 127], holes: &mut [bool; 127], row: usize)
+    requires { (row < 127) × (Inner (kind_at rows.old row) → (row + 1 < left_at rows.old row) × (left_at rows.old row < 127)) }
+    ensures rows_after { rows.new ≡ filled_in holes.old row rows.old }
+    ensures holes_after { holes.new ≡ set holes.old row (hole_of rows.old holes.old row) }
 {
-    let kind = fields::kind(links, row);
-    if kind < 2 {
-        holes[row] = kind == 1;
-        return;
+    let left = usize::from(rows[row].links.left);
+    match rows[row].links.kind {
+        RowKind::With => holes[row] = false,
+        RowKind::Without => holes[row] = true,
+        RowKind::Either => {
+            let hollow = holes[left] & holes[row + 1];
+            rows[row].masks = either_of(rows[left].masks, rows[row + 1].masks, hollow);
+            holes[row] = holes[left] | holes[row + 1];
+        }
+        RowKind::Both => {
+            rows[row].masks = both_of(rows[left].masks, rows[row + 1].masks);
+            holes[row] = holes[left] & holes[row + 1];
+        }
     }
-    let left = fields::left(links, row);
-    let one = holes[left];
-    let other = holes[row + 1];
-    if kind == 2 {
-        fill_either(masks, row, left, one & other);
-        holes[row] = one | other;
-        return;
-    }
-    fill_both(masks, row, left);
-    holes[row] = one & other;
 }
 
 // The masks of all rows, where the leaves have theirs.
-pub fn fill(links: &[u8; 508], masks: &mut [u64; 381], end: usize)
-    requires { SoundLinks links.now end × (length masks.old ≡ 381) }
-    ensures { Fills links.now masks.old masks.new end 0 }
+pub fn fill(rows: &mut [PlanRow; 127], end: usize)
+    requires { SoundLinks rows.old end }
+    ensures { Fills rows.old rows.new end 0 }
 {
+    // beside the rows and not in them, since only this loop asks for them
     let mut holes: [bool; 127] = [false; 127];
-    let mut row = end;
-    while 0 < row {
-        row -= 1;
-        fill_row(links, masks, &mut holes, row);
+    for row in (0..end).rev() {
+        fill_row(rows, &mut holes, row);
     }
 }

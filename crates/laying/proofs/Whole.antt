@@ -1,15 +1,15 @@
 -- The rows of a whole table: how they begin, and what they are once they are all laid out. Assumes nothing.
-use Prim.Native.Nat.{ℕ, ◌+◌, ◌-◌, ◌*◌, ◌≤◌, ◌<◌}
+use Prim.Native.Nat.{ℕ, ◌-◌, ◌≤◌, ◌<◌}
 use native.Mathlib.Nat.{zero-add}
 use native.Mathlib.Omega.{arith}
 use mathlib.Core.Bool.{true}
 use mathlib.Core.List.{List, [], ◌∷◌}
-use mathlib.Core.Path.{◌≡◌, sym, ap, subst, ◌∙◌}
+use mathlib.Core.Path.{◌≡◌, refl, sym, ap, subst, ◌∙◌}
 use lib.Bits.{bit_and}
 use lib.Dec.{eqb}
 use lib.IntN.{ℤ}
-use lib.ListN.{length, get_or}
-use lib.Seq.{sets, length-sets}
+use lib.ListN.{length, get_or, length-set}
+use Rattle.std.proofs.Common.{None}
 use Rattle.rules.specs.Table.{row_count, primitives}
 use Rattle.rules.specs.Choices.{in_of}
 use Rattle.laws.specs.Survivors.{survivors}
@@ -17,15 +17,18 @@ use Rattle.laws.specs.Plans.{Plan, ways, Apart}
 use Rattle.laws.specs.Reach.{cut_down, meetings}
 use Rattle.laws.specs.Sound.{Sound}
 use Rattle.choice.specs.Steps.{plan_at, root_plan}
-use Rattle.rows.specs.Rows.{kind_at, left_at, SoundLinks}
-use Rattle.rows.specs.Lines.{line, Stands}
-use Rattle.filling.specs.Filling.{leaf_plan, MasksOf, LeavesTo, Fills}
+use Rattle.rows.specs.declared.Part.{Part}
+use Rattle.rows.specs.declared.PlanRow.{PlanRow}
+use Rattle.rows.specs.Rows.{links_at, with_links, SoundLinks}
+use Rattle.rows.specs.Lines.{coming_links, line_in, Stands}
+use Rattle.sizing.specs.Sizes.{SizedTo}
+use Rattle.filling.specs.Filling.{LeavesTo, FullFrom, Fills}
 use Rattle.laying.specs.Laying.{all_rows, all_lines, Comes, Laying, Laid}
 use Rattle.laws.proofs.Apart.{table_apart}
 use Rattle.laying.proofs.Linked.{rows_survivors}
 use Rattle.laying.proofs.Lines.{length_lines, lines_plan, lines_sound, lines_tied}
 use Rattle.sizing.proofs.Sizes.{few_rows}
-use Rattle.rows.proofs.Writes.{sets_stands}
+use Rattle.rows.proofs.Changes.{row_here}
 
 module _ (t : List ℤ) (S : Sound t) where
   last_row : row_count t - 1 < row_count t
@@ -38,49 +41,42 @@ module _ (t : List ℤ) (S : Sound t) where
   pub few : all_rows t ≤ 127
   few = few_rows t S (row_count t - 1) last_row true
 
+  -- the root's rows are all
+  pub root_rows : {sizes : List ℕ} {root n : ℕ} → SizedTo t sizes (row_count t) → root ≡ row_count t - 1 → n ≡ get_or sizes root 0 → n ≡ all_rows t
+  root_rows {sizes} sized e h = h ∙ ap (λ (row : ℕ). get_or sizes row 0) e ∙ sized.each (row_count t - 1) last_row true
+
   -- the root alone is to come
-  pub laying_none : (seen : ℕ) (links : List ℕ) {masks : List ℕ} → length links ≡ 508 → length masks ≡ 381 → {root rows : ℕ} → root ≡ row_count t - 1 → rows ≡ all_rows t
-      → {after : List ℕ} → after ≡ sets links 0 (line 1 root rows 0) → Laying t seen after masks 0
+  pub laying_none : (seen : ℕ) (rows : List PlanRow) → length rows ≡ 127 → (root : Part) → root.row ≡ row_count t - 1 → root.within ≡ true → {n : ℕ} → n ≡ all_rows t → {after : List PlanRow} → after ≡ with_links rows 0 (coming_links root n None) → Laying t seen after 0
   unfolding Comes
-  laying_none seen links {masks} ll lm {root} {rows} er en {after} e =
-      subst (λ (m : List ℕ). Laying t seen m masks 0) (sym (e ∙ (λ i. sets links 0 (line 1 (er i) (en i) 0)))) (record {
+  laying_none seen rows long root er ew {n} en {after} e =
+      let last : Part = record { row = row_count t - 1; within = true } in
+      subst (λ (m : List PlanRow). Laying t seen m 0) (sym (e ∙ (λ i. with_links rows 0 (coming_links (record { row = er i; within = ew i }) (en i) None)))) (record {
         in_range = omega arith;
-        long_links = length-sets links 0 (line 1 (row_count t - 1) (all_rows t) 0) ∙ ll;
-        long_masks = lm;
-        same = λ j k. absurd (omega arith);
+        long = length-set rows 0 _ ∙ long;
+        same = λ y k. absurd (omega arith);
         leaves = λ y k. absurd (omega arith);
-        coming = record { row = row_count t - 1; within = true; next = all_rows t; done = 0 } ∷ [];
-        comes = (last_row, (sets_stands links 0 (line 1 (row_count t - 1) (all_rows t) 0) (omega (arith, ll)), ((λ j k. ap (λ (n : ℕ). get_or (all_lines t) n 0) (zero-add j)), zero-add (all_rows t))));
+        coming = record { part = last; next = all_rows t; done = None } ∷ [];
+        comes = (last_row, ((row_here rows 0 (omega (arith, long)) _).0, ((λ j k. ap (line_in (all_lines t)) (zero-add j)), zero-add (all_rows t))));
       })
 
-  module _ {seen : ℕ} {links masks : List ℕ} {end : ℕ} (n : end ≡ all_rows t) (L : Laying t seen links masks end) where
-    stands : Stands links 0 (all_lines t)
-    stands j k =
-        ap (λ (i : ℕ). get_or links i 0) (zero-add j)
-        ∙ L.same j (omega (arith, n, length_lines (root_plan t) 0 (all_rows t) 0))
+  -- with masks that are filled in, the walk gives the list
+  module _ {seen : ℕ} {rows : List PlanRow} {end : ℕ} (n : end ≡ all_rows t) (L : Laying t seen rows end) where
+    stands : (after : List PlanRow) → ((y : ℕ) → links_at after y ≡ links_at rows y) → Stands (links_at after) 0 (all_lines t)
+    stands after same j k =
+        ap (links_at after) (zero-add j) ∙ same j ∙ L.same j (omega (arith, n, length_lines (root_plan t) 0 (all_rows t) None))
 
-    all_sound : SoundLinks links (all_rows t)
-    all_sound = lines_sound links (root_plan t) few stands
+    pub links_sound : SoundLinks rows end
+    links_sound = subst (SoundLinks rows) (sym n) (lines_sound rows (root_plan t) few (stands rows (λ y. refl)))
 
-    pub links_sound : SoundLinks links end
-    links_sound = subst (SoundLinks links) (sym n) all_sound
-
-    same_at : (y : ℕ) → y < all_rows t → (kind_at (all_lines t) y ≡ kind_at links y) × (left_at (all_lines t) y ≡ left_at links y)
-    same_at y l = (sym (L.same (y * 4) (omega (arith, n))), sym (L.same (y * 4 + 1) (omega (arith, n))))
-
-    leaves_here : LeavesTo (meetings (primitives t)) seen links masks (all_rows t)
-    leaves_here y l k =
-        let e = same_at y l in
-        subst (MasksOf (meetings (primitives t)) seen masks y) (λ i. leaf_plan (e.0 i) (e.1 i)) (L.leaves y (omega (arith, n)) (omega (arith, e.0)))
-
-    -- with masks that are filled in, the walk gives the list
-    pub laid : {after : List ℕ} → Fills links masks after end 0 → Laid t seen links after end
+    pub laid : {after : List PlanRow} → Fills rows after end 0 → Laid t seen after end
     laid {after} fills =
-        let full = (subst (λ (e : ℕ). Fills links masks after e 0) n fills (meetings (primitives t)) seen leaves_here).1 in
-        subst (Laid t seen links after) (sym n) (record {
-          sound = record { linked = all_sound; masked = λ x l. let m = full x (omega arith) l in record { below = m.below; risky = m.risky } };
+        let h = stands after fills.links in
+        let sound = lines_sound after (root_plan t) few h in
+        let full = (subst (λ (e : ℕ). LeavesTo (meetings (primitives t)) seen after e × FullFrom (meetings (primitives t)) seen after e 0) n (fills.masks (meetings (primitives t)) seen L.leaves)).1 in
+        let same = lines_plan after (root_plan t) few h in
+        subst (Laid t seen after) (sym n) (record {
+          sound = record { linked = sound; masked = λ x l. let m = full x (omega arith) l in record { below = m.below; risky = m.risky } };
           lists =
-              let same = lines_plan links (root_plan t) few stands in
-              rows_survivors (meetings (primitives t)) seen after all_sound (lines_tied links (root_plan t) few stands) full (subst Apart (sym same) root_apart)
+              rows_survivors (meetings (primitives t)) seen sound (lines_tied after (root_plan t) few h) full (subst Apart (sym same) root_apart)
               ∙ ap (λ (q : Plan). survivors (λ chosen. eqb (bit_and chosen (cut_down (meetings (primitives t)) chosen seen)) chosen) (λ chosen. cut_down (meetings (primitives t)) chosen seen) (ways q)) same;
         })

@@ -3,13 +3,13 @@
 
 #![tactic(auto)]
 
-ghost use Rattle.std.specs.Prelude.{◌+◌, ◌<◌, ◌≡◌, length};
+ghost use Rattle.std.specs.Prelude.{◌+◌, ◌<◌, ◌≡◌};
 ghost use Rattle.rules.specs.Table.{row_count};
 ghost use Rattle.sizing.specs.Sizes.{Given, SizedTo};
 ghost use Rattle.laying.specs.Laying.{all_rows, Laying, Laid};
 
 use choice::Step;
-use rows::fields;
+use rows::{Links, Part, PlanRow, RowKind};
 
 // Lays out the row that is to come at a place: its own links, and its parts as rows that are to come; of a leaf the masks too.
 fn lay_row(
@@ -17,88 +17,74 @@ fn lay_row(
     bits: &[u64; 127],
     sizes: &[u8; 127],
     seen: u64,
-    links: &mut [u8; 508],
-    masks: &mut [u64; 381],
+    rows: &mut [PlanRow; 127],
     at: usize,
 )
     requires given { Given table.now bits.now × SizedTo table.now sizes.now (row_count table.now) }
-    requires laying { Laying table.now seen links.old masks.old at × (at < all_rows table.now) }
-    ensures { Laying table.now seen links.new masks.new (at + 1) }
+    requires laying { Laying table.now seen rows.old at × (at < all_rows table.now) }
+    ensures { Laying table.now seen rows.new (at + 1) }
 {
-    let within = fields::kind(links, at) == 1;
-    let row = fields::left(links, at);
-    let step = choice::read_step(table, bits, row, within);
-    match step {
+    let here = rows[at].links;
+    let part = here.part();
+    let right = at as u8 + 1;
+    match choice::read_step(table, bits, part.row, part.within) {
         Step::With(bit) => {
-            let span = reach::sharing_row(table, row) & seen;
-            rows::put_leaf(links, masks, at, 0, bit, span);
+            let span = reach::sharing_row(table, part.row) & seen;
+            rows::put_leaf(rows, at, RowKind::With, bit, span);
         }
         Step::Without(bit) => {
-            rows::put_leaf(links, masks, at, 1, bit, seen);
+            rows::put_leaf(rows, at, RowKind::Without, bit, seen);
         }
         Step::Either(lhs, lhs_in, rhs, rhs_in) => {
-            let next = links[at * 4 + 2];
-            let left = at + 1 + fields::wide(sizes[rhs]);
-            rows::put_pair(links, at, 2, left, lhs, lhs_in, rhs, rhs_in, next, 0);
+            let own = Links {
+                kind: RowKind::Either,
+                left: right + sizes[rhs],
+                ..here
+            };
+            let lhs = Part {
+                row: lhs,
+                within: lhs_in,
+            };
+            let rhs = Part {
+                row: rhs,
+                within: rhs_in,
+            };
+            rows::put_pair(rows, at, own, lhs, rhs, own.next, None);
         }
         Step::Both(lhs, lhs_in, rhs, rhs_in) => {
-            let left = at + 1 + fields::wide(sizes[rhs]);
-            rows::put_pair(
-                links,
-                at,
-                3,
-                left,
-                lhs,
-                lhs_in,
-                rhs,
-                rhs_in,
-                fields::narrow(left),
-                fields::narrow(at + 1),
-            );
+            let own = Links {
+                kind: RowKind::Both,
+                left: right + sizes[rhs],
+                ..here
+            };
+            let lhs = Part {
+                row: lhs,
+                within: lhs_in,
+            };
+            let rhs = Part {
+                row: rhs,
+                within: rhs_in,
+            };
+            rows::put_pair(rows, at, own, lhs, rhs, own.left, Some(right));
         }
-    }
-}
-
-// Lays out all rows, where the first is to come.
-fn lay_rows(
-    table: &[i32],
-    bits: &[u64; 127],
-    sizes: &[u8; 127],
-    seen: u64,
-    links: &mut [u8; 508],
-    masks: &mut [u64; 381],
-    end: usize,
-)
-    requires given { Given table.now bits.now × SizedTo table.now sizes.now (row_count table.now) }
-    requires laying { Laying table.now seen links.old masks.old 0 × (end ≡ all_rows table.now) }
-    ensures { Laying table.now seen links.new masks.new end }
-{
-    let mut at: usize = 0;
-    while at < end {
-        lay_row(table, bits, sizes, seen, links, masks, at);
-        at += 1;
     }
 }
 
 // The rows of a zone's plan, for the primitives that share a point with the window; how many there are.
-pub fn lay(
-    table: &[i32],
-    bits: &[u64; 127],
-    seen: u64,
-    links: &mut [u8; 508],
-    masks: &mut [u64; 381],
-) -> usize
-    requires given { Given table.now bits.now }
-    requires links_len { (length links.old ≡ 508) × (length masks.old ≡ 381) }
-    ensures { Laid table.now seen links.new masks.new result }
+pub fn lay(table: &[i32], bits: &[u64; 127], seen: u64, rows: &mut [PlanRow; 127]) -> usize
+    requires { Given table.now bits.now }
+    ensures { Laid table.now seen rows.new result }
 {
-    let mut sizes: [u8; 127] = [0; 127];
-    sizing::size_rows(&mut sizes, table, bits);
-    let root = table::root(table);
-    let rows = sizes[root];
-    rows::put_links(links, 0, 1, fields::narrow(root), rows, 0);
-    let end = fields::wide(rows);
-    lay_rows(table, bits, &sizes, seen, links, masks, end);
-    filling::fill(links, masks, end);
+    let sizes = sizing::sizes_of(table, bits);
+    let root = Part {
+        row: table::root(table),
+        within: true,
+    };
+    rows[0].links = root.links(sizes[root.row], None);
+    let end = usize::from(sizes[root.row]);
+    for at in 0..end {
+        lay_row(table, bits, &sizes, seen, rows, at);
+    }
+    filling::fill(rows, end);
     end
 }

@@ -15,26 +15,20 @@ ghost use Rattle.rows.specs.Rows.{SoundRows};
 ghost use Rattle.walk.specs.Tracks.{walk_at, start_of};
 ghost use Rattle.list.specs.Words.{Measured};
 
+use rows::PlanRow;
 use rules::{Refusal, Rule, Window};
 
 // Words that are enough: room for every way where that is there, so that one walk does; else exactly what the products take.
-fn measure(
-    list: &mut [u64],
-    links: &[u8; 508],
-    masks: &[u64; 381],
-    end: usize,
-    seen: u64,
-    ways: u64,
-) -> usize
-    requires sound_rows { SoundRows links.now masks.now end }
-    requires seen_len_bound { (length (walk_at links.now masks.now end (start_of seen)) ≤ ways) × (ways ≤ most_choices) }
-    ensures { Measured (place_of (length (walk_at links.now masks.now end (start_of seen)))) (length list.old) result × (list.new ≡ list.old) }
+fn measure(list: &mut [u64], rows: &[PlanRow; 127], end: usize, seen: u64, ways: u64) -> usize
+    requires sound_rows { SoundRows rows.now end }
+    requires seen_len_bound { (length (walk_at rows.now end (start_of seen)) ≤ ways) × (ways ≤ most_choices) }
+    ensures { Measured (place_of (length (walk_at rows.now end (start_of seen)))) (length list.old) result × (list.new ≡ list.old) }
 {
     let most = layout::place_of(ways as usize);
     if most <= list.len() {
         return most;
     }
-    layout::place_of(walk::walk(links, masks, end, seen, list, false))
+    layout::place_of(walk::walk(rows, end, seen, list, false))
 }
 
 // The ways are not too many: the room, then the list.
@@ -52,14 +46,13 @@ fn make_of(
     ensures { ListMade table.now w list.old list.new result }
 {
     let seen = reach::seen_in(table, w);
-    let mut links: [u8; 508] = [0; 508];
-    let mut masks: [u64; 381] = [0; 381];
-    let end = laying::lay(table, bits, seen, &mut links, &mut masks);
-    let needed = measure(list, &links, &masks, end, seen, ways);
+    let mut rows: [PlanRow; 127] = [rows::BLANK; 127];
+    let end = laying::lay(table, bits, seen, &mut rows);
+    let needed = measure(list, &rows, end, seen, ways);
     if list.len() < needed {
         return Err(Refusal::new(Rule::Room, needed));
     }
-    let n = walk::walk(&links, &masks, end, seen, list, true);
+    let n = walk::walk(&rows, end, seen, list, true);
     layout::write_header(list, w, solids, n);
     Ok(layout::place_of(n))
 }

@@ -2,14 +2,15 @@
 
 #![tactic(auto)]
 
-ghost use Rattle.std.specs.Prelude.{◌+◌, ◌<◌, ◌∷◌, ◌≡◌, eqb, length, if◌then◌else◌};
-ghost use Rattle.rows.specs.Rows.{left_at};
-ghost use Rattle.places.specs.Places.{onward_of, aside_of, places_of};
+ghost use Rattle.std.specs.Prelude.{◌+◌, ◌<◌, ◌≤◌, List, [], ◌∷◌, ◌≡◌, length, MatchOption};
+ghost use Rattle.places.specs.declared.Place.{Place};
+ghost use Rattle.places.specs.Places.{onward_of, aside_of, last_first};
 
-use rows::fields;
+use rows::{PlanRow, RowKind};
+use std::marker::Model;
 
 // Where a walk stands: the row that it comes to, what is chosen so far, and what is still in reach.
-#[derive(Clone, Copy)]
+#[derive(Clone, Copy, PartialEq, Eq, Debug)]
 pub struct Place {
     pub row: usize,
     pub plain: u64,
@@ -17,95 +18,106 @@ pub struct Place {
     pub reach: u64,
 }
 
-// The part of a row with two parts that is walked first.
-fn part(links: &[u8; 508], row: usize, kind: usize) -> usize
-    requires { row < 127 }
-    ensures { result ≡ (if eqb kind 2 then left_at links.now row else row + 1) }
-{
-    if kind == 2 {
-        return fields::left(links, row);
+// Where a walk begins: at the first row, with nothing chosen.
+const START: Place = Place {
+    row: 0,
+    plain: 0,
+    cuts: 0,
+    reach: 0,
+};
+
+// The places that a walk has put aside: a list of at most 64, the last first.
+#[derive(Drop)]
+pub struct Aside {
+    places: [Place; 64],
+    count: usize,
+}
+
+impl Model for Aside {
+    ghost Value = { List Place };
+
+    ghost view = { λ aside. last_first aside.places aside.count };
+
+    ghost invariant = { λ aside. aside.count ≤ 64 };
+}
+
+impl Aside {
+    // Nothing is aside.
+    pub fn new() -> Aside
+        ensures { result ≡ [] }
+    {
+        Aside {
+            places: [START; 64],
+            count: 0,
+        }
     }
-    row + 1
+
+    // Puts a place aside.
+    pub fn push(&mut self, at: Place)
+        requires { length self.old < 64 }
+        ensures { self.new ≡ at ∷ self.old }
+    {
+        self.places[self.count] = at;
+        self.count += 1;
+    }
+
+    // The place that was put aside last, if there is one.
+    pub fn pop(&mut self) -> Option<Place>
+        ensures { MatchOption result ((self.old ≡ []) × (self.new ≡ [])) (λ at. self.old ≡ at ∷ self.new) }
+    {
+        if self.count == 0 {
+            return None;
+        }
+        self.count -= 1;
+        Some(self.places[self.count])
+    }
 }
 
 // The place that is walked next: after a leaf, in the left part of an `either`, in the right part of a `both`.
-pub fn onward(links: &[u8; 508], masks: &[u64; 381], at: Place) -> Place
+pub fn onward(rows: &[PlanRow; 127], at: Place) -> Place
     requires { at.row < 127 }
-    ensures { result ≡ onward_of links.now masks.now at }
+    ensures { result ≡ onward_of rows.now at }
 {
-    let kind = fields::kind(links, at.row);
-    let reach = at.reach & fields::span(masks, at.row);
-    if kind == 0 {
-        return Place {
-            row: fields::next(links, at.row),
-            plain: at.plain | fields::below(masks, at.row),
-            cuts: at.cuts,
+    let here = &rows[at.row];
+    let reach = at.reach & here.masks.span;
+    let next = usize::from(here.links.next);
+    match here.links.kind {
+        RowKind::With => Place {
+            row: next,
+            plain: at.plain | here.masks.below,
             reach,
-        };
-    }
-    if kind == 1 {
-        return Place {
-            row: fields::next(links, at.row),
-            plain: at.plain,
-            cuts: at.cuts | fields::below(masks, at.row),
+            ..at
+        },
+        RowKind::Without => Place {
+            row: next,
+            cuts: at.cuts | here.masks.below,
             reach,
-        };
-    }
-    let row = part(links, at.row, kind);
-    Place {
-        row,
-        plain: at.plain,
-        cuts: at.cuts,
-        reach,
-    }
-}
-
-// Puts a place aside, after so many.
-pub fn put_aside(aside: &mut [u64; 256], count: usize, at: Place)
-    requires { (count < 64) × (length aside.old ≡ 256) }
-    ensures { (places_of aside.new (count + 1) ≡ at ∷ places_of aside.old count) × (length aside.new ≡ 256) }
-{
-    let first = count * 4;
-    aside[first] = at.row as u64;
-    aside[first + 1] = at.plain;
-    aside[first + 2] = at.cuts;
-    aside[first + 3] = at.reach;
-}
-
-// The place that was put aside after so many.
-pub fn taken(aside: &[u64; 256], count: usize) -> Place
-    requires { count < 64 }
-    ensures { places_of aside.now (count + 1) ≡ result ∷ places_of aside.now count }
-{
-    let first = count * 4;
-    Place {
-        row: aside[first] as usize,
-        plain: aside[first + 1],
-        cuts: aside[first + 2],
-        reach: aside[first + 3],
-    }
-}
-
-// Puts the right part of an `either` aside; how many are aside then.
-pub fn fork(
-    links: &[u8; 508],
-    masks: &[u64; 381],
-    aside: &mut [u64; 256],
-    count: usize,
-    at: Place,
-) -> usize
-    requires { (at.row < 127) × ((count < 64) × (length aside.old ≡ 256)) }
-    ensures { (places_of aside.new result ≡ aside_of links.now masks.now at (places_of aside.old count)) × (length aside.new ≡ 256) }
-{
-    if fields::kind(links, at.row) == 2 {
-        let right = Place {
+            ..at
+        },
+        RowKind::Either => Place {
+            row: usize::from(here.links.left),
+            reach,
+            ..at
+        },
+        RowKind::Both => Place {
             row: at.row + 1,
-            plain: at.plain,
-            cuts: at.cuts,
-            reach: at.reach & fields::span(masks, at.row),
-        };
-        put_aside(aside, count, right);
-        return count + 1;
+            reach,
+            ..at
+        },
     }
-    count
+}
+
+// Puts the right part of an `either` aside.
+pub fn fork(rows: &[PlanRow; 127], aside: &mut Aside, at: Place)
+    requires { (at.row < 127) × (length aside.old < 64) }
+    ensures { aside.new ≡ aside_of rows.now at aside.old }
+{
+    let here = &rows[at.row];
+    if here.links.kind == RowKind::Either {
+        aside.push(Place {
+            row: at.row + 1,
+            reach: at.reach & here.masks.span,
+            ..at
+        });
+    }
 }

@@ -8,7 +8,7 @@ ghost use Rattle.laws.specs.Plans.{blank};
 ghost use Rattle.rows.specs.Rows.{below_at, plan_in, InRows};
 ghost use Rattle.repeats.specs.Repeats.{clear, safe, stale};
 
-use rows::fields;
+use rows::{PlanRow, RowKind};
 
 // No primitive of a set is chosen.
 fn clear_of(set: u64, plain: u64, cuts: u64) -> bool
@@ -25,80 +25,56 @@ fn safe_in(set: u64, cuts: u64, reach: u64) -> bool
 }
 
 // Some choice of the row comes to nothing within the reach.
-fn blank_at(links: &[u8; 508], masks: &[u64; 381], row: usize, reach: u64) -> bool
-    requires { InRows links.now masks.now row }
-    ensures { result ≡ blank (plan_in links.now row) reach }
+#[tactic(auto, using(crate::proofs::Repeats::blank_with, crate::proofs::Repeats::blank_without, crate::proofs::Repeats::blank_by_either, crate::proofs::Repeats::blank_by_both))]
+fn blank_at(rows: &[PlanRow; 127], row: usize, reach: u64) -> bool
+    requires { InRows rows.now row }
+    ensures { result ≡ blank (plan_in rows.now row) reach }
 {
-    let kind = fields::kind(links, row);
-    if kind == 0 {
-        return false;
+    let here = &rows[row];
+    let left = usize::from(here.links.left);
+    match here.links.kind {
+        RowKind::With => false,
+        RowKind::Without => here.masks.below & reach == 0,
+        RowKind::Either => blank_at(rows, left, reach) || blank_at(rows, row + 1, reach),
+        RowKind::Both => blank_at(rows, left, reach) && blank_at(rows, row + 1, reach),
     }
-    if kind == 1 {
-        return fields::below(masks, row) & reach == 0;
-    }
-    let some = blank_at(links, masks, fields::left(links, row), reach);
-    if kind == 2 {
-        if some {
-            return true;
-        }
-        return blank_at(links, masks, row + 1, reach);
-    }
-    if some {
-        return blank_at(links, masks, row + 1, reach);
-    }
-    false
 }
 
 // What is chosen of the right part comes to nothing within the reach, and so does some choice of the left part.
 fn hidden(
-    links: &[u8; 508],
-    masks: &[u64; 381],
+    rows: &[PlanRow; 127],
     left: usize,
     right: usize,
     plain: u64,
     cuts: u64,
     reach: u64,
 ) -> bool
-    requires { InRows links.now masks.now left × (right < 127) }
-    ensures { result ≡ (clear (below_at masks.now right) plain (bit_and cuts reach) && blank (plan_in links.now left) reach) }
+    requires { InRows rows.now left × (right < 127) }
+    ensures { result ≡ (clear (below_at rows.now right) plain (bit_and cuts reach) && blank (plan_in rows.now left) reach) }
 {
-    if clear_of(fields::below(masks, right), plain, cuts & reach) {
-        return blank_at(links, masks, left, reach);
-    }
-    false
+    clear_of(rows[right].masks.below, plain, cuts & reach) && blank_at(rows, left, reach)
 }
 
 // What is chosen of the row repeats an earlier choice of it.
-pub fn stale_at(
-    links: &[u8; 508],
-    masks: &[u64; 381],
-    row: usize,
-    plain: u64,
-    cuts: u64,
-    reach: u64,
-) -> bool
-    requires { InRows links.now masks.now row }
-    ensures { result ≡ stale (plan_in links.now row) plain cuts reach }
+#[tactic(auto, using(crate::proofs::Repeats::stale_with, crate::proofs::Repeats::stale_without, crate::proofs::Repeats::stale_safe, crate::proofs::Repeats::stale_either, crate::proofs::Repeats::stale_both))]
+pub fn stale_at(rows: &[PlanRow; 127], row: usize, plain: u64, cuts: u64, reach: u64) -> bool
+    requires { InRows rows.now row }
+    ensures { result ≡ stale (plan_in rows.now row) plain cuts reach }
 {
-    if safe_in(fields::risk(masks, row), cuts, reach) {
+    let here = &rows[row];
+    if safe_in(here.masks.risk, cuts, reach) {
         return false;
     }
-    let kind = fields::kind(links, row);
-    if kind < 2 {
-        return false;
-    }
-    let left = fields::left(links, row);
-    if kind == 2 {
-        if clear_of(fields::below(masks, left), plain, cuts) {
-            if hidden(links, masks, left, row + 1, plain, cuts, reach) {
-                return true;
-            }
-            return stale_at(links, masks, row + 1, plain, cuts, reach);
+    let left = usize::from(here.links.left);
+    match here.links.kind {
+        RowKind::With | RowKind::Without => false,
+        RowKind::Either if clear_of(rows[left].masks.below, plain, cuts) => {
+            hidden(rows, left, row + 1, plain, cuts, reach)
+                || stale_at(rows, row + 1, plain, cuts, reach)
         }
-        return stale_at(links, masks, left, plain, cuts, reach);
+        RowKind::Either => stale_at(rows, left, plain, cuts, reach),
+        RowKind::Both => {
+            stale_at(rows, row + 1, plain, cuts, reach) || stale_at(rows, left, plain, cuts, reach)
+        }
     }
-    if stale_at(links, masks, row + 1, plain, cuts, reach) {
-        return true;
-    }
-    stale_at(links, masks, left, plain, cuts, reach)
 }

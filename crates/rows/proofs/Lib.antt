@@ -1,2 +1,2 @@
-pub mod Writes
+pub mod Changes
 pub mod Rows

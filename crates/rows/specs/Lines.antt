@@ -1,6 +1,12 @@
 -- The links of a plan's rows: each row, then its right part, then its left part.
-use Rattle.std.specs.Prelude.{ℕ, ◌+◌, ◌<◌, Bool, true, false, List, [], ◌∷◌, ◌++◌, ◌≡◌, length, get_or}
+use Rattle.std.specs.Prelude.{ℕ, ◌+◌, ◌<◌, Bool, true, false, List, [], ◌∷◌, ◌++◌, ◌≡◌, length, get_or, Some, None}
+use Rattle.std.proofs.Common.{Option}
 use Rattle.laws.specs.Plans.{Plan, with_it, without, either, both}
+use Rattle.rows.specs.declared.RowKind.{RowKind}
+use Rattle.rows.specs.declared.RowKind.TheVariants.{With, Without, Either, Both}
+use Rattle.rows.specs.declared.Links.{Links}
+use Rattle.rows.specs.declared.Part.{Part}
+use Rattle.rows.specs.Rows.{blank_links}
 
 unfoldable pub rows_of : Plan → ℕ
 rows_of (with_it i) = 1
@@ -8,21 +14,38 @@ rows_of (without i) = 1
 rows_of (either a b) = rows_of a + rows_of b + 1
 rows_of (both a b) = rows_of a + rows_of b + 1
 
-abbrev pub line : ℕ → ℕ → ℕ → ℕ → List ℕ
-line kind left next done = kind ∷ left ∷ next ∷ done ∷ []
+abbrev pub line : RowKind → ℕ → ℕ → Option ℕ → Links
+line kind left next prior = record { kind = kind; left = left; next = next; done = prior }
 
-unfoldable pub lines : Plan → ℕ → ℕ → ℕ → List ℕ
-lines (with_it i) x next done = line 0 i next done
-lines (without i) x next done = line 1 i next done
-lines (either a b) x next done = line 2 (x + 1 + rows_of b) next done ++ (lines b (x + 1) next 0 ++ lines a (x + 1 + rows_of b) next 0)
-lines (both a b) x next done =
-    line 3 (x + 1 + rows_of b) next done ++ (lines b (x + 1) (x + 1 + rows_of b) 0 ++ lines a (x + 1 + rows_of b) next (x + 1))
+unfoldable pub lines : Plan → ℕ → ℕ → Option ℕ → List Links
+lines (with_it i) x next prior = line With i next prior ∷ []
+lines (without i) x next prior = line Without i next prior ∷ []
+lines (either a b) x next prior = line Either (x + 1 + rows_of b) next prior ∷ (lines b (x + 1) next None ++ lines a (x + 1 + rows_of b) next None)
+lines (both a b) x next prior =
+    line Both (x + 1 + rows_of b) next prior ∷ (lines b (x + 1) (x + 1 + rows_of b) None ++ lines a (x + 1 + rows_of b) next (Some (x + 1)))
 
 -- a row that is to come has its side in place of its kind, and its row of the table in place of its left part
-abbrev pub side_of : Bool → ℕ
-side_of true = 1
-side_of false = 0
+abbrev pub side_of : Bool → RowKind
+side_of true = With
+side_of false = Without
 
--- some words stand in a list from a place on
-abbrev pub Stands : List ℕ → ℕ → List ℕ → Type 0
-Stands l i words = (j : ℕ) → j < length words → get_or l (i + j) 0 ≡ get_or words j 0
+abbrev pub coming_links : Part → ℕ → Option ℕ → Links
+coming_links part next prior = line (side_of part.within) part.row next prior
+
+-- the part that such a row stands for
+abbrev pub is_in : RowKind → Bool
+is_in With = true
+is_in Without = false
+is_in Either = false
+is_in Both = false
+
+abbrev pub part_of : Links → Part
+part_of links = record { row = links.left; within = is_in links.kind }
+
+-- the links of a line
+abbrev pub line_in : List Links → ℕ → Links
+line_in lines x = get_or lines x blank_links
+
+-- some lines stand among links from a row on
+abbrev pub Stands : (ℕ → Links) → ℕ → List Links → Type 0
+Stands links x lines = (j : ℕ) → j < length lines → links (x + j) ≡ line_in lines j

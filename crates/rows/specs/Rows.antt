@@ -1,76 +1,105 @@
--- A plan as rows. A row has four links: its kind (0 with, 1 without, 2 either, 3 both), its left part (of a leaf: the primitive's number), the
--- row that is walked after it, and the right part of a `both` that is done just before it (0: none). The right part is the row after it.
+-- A plan as rows. A row has four links: its kind, its left part (of a leaf: the primitive's number), the row that is walked after it, and the right
+-- part of a `both` that is done just before it, if there is one. The right part is the row after it.
 -- And it has three masks: the primitives below it, its span, its risk.
-use Rattle.std.specs.Prelude.{ℕ, zero, suc, ◌+◌, ◌-◌, ◌*◌, ◌≤◌, ◌<◌, List, ◌≡◌, eqb, get_or, if◌then◌else◌}
+use Rattle.std.specs.Prelude.{ℕ, zero, suc, ◌+◌, ◌-◌, ◌≤◌, ◌<◌, List, ◌≡◌, get_or, set, Some, None}
+use Rattle.std.proofs.Common.{Option}
 use Rattle.laws.specs.Plans.{Plan, with_it, without, either, both, mask}
+use Rattle.rows.specs.declared.RowKind.{RowKind}
+use Rattle.rows.specs.declared.RowKind.TheVariants.{With, Without, Either, Both}
+use Rattle.rows.specs.declared.Links.{Links}
+use Rattle.rows.specs.declared.Masks.{Masks}
+use Rattle.rows.specs.declared.PlanRow.{PlanRow}
 use Rattle.rows.specs.Masks.{risk}
 
-module _ (links : List ℕ) (row : ℕ) where
-  abbrev pub kind_at : ℕ
-  kind_at = get_or links (row * 4) 0
+abbrev pub blank_links : Links
+blank_links = record { kind = With; left = 0; next = 0; done = None }
+
+abbrev pub blank_row : PlanRow
+blank_row = record { links = blank_links; masks = record { below = 0; span = 0; risk = 0 } }
+
+module _ (rows : List PlanRow) (x : ℕ) where
+  abbrev pub links_at : Links
+  links_at = (get_or rows x blank_row).links
+
+  abbrev pub masks_at : Masks
+  masks_at = (get_or rows x blank_row).masks
+
+  abbrev pub kind_at : RowKind
+  kind_at = links_at.kind
 
   abbrev pub left_at : ℕ
-  left_at = get_or links (row * 4 + 1) 0
+  left_at = links_at.left
 
   abbrev pub next_at : ℕ
-  next_at = get_or links (row * 4 + 2) 0
+  next_at = links_at.next
 
-  abbrev pub done_at : ℕ
-  done_at = get_or links (row * 4 + 3) 0
+  abbrev pub done_at : Option ℕ
+  done_at = links_at.done
 
-module _ (masks : List ℕ) (row : ℕ) where
   abbrev pub below_at : ℕ
-  below_at = get_or masks (row * 3) 0
+  below_at = masks_at.below
 
   abbrev pub span_at : ℕ
-  span_at = get_or masks (row * 3 + 1) 0
+  span_at = masks_at.span
 
   abbrev pub risk_at : ℕ
-  risk_at = get_or masks (row * 3 + 2) 0
+  risk_at = masks_at.risk
 
-abbrev pub shape : ℕ → ℕ → Plan → Plan → Plan
-shape kind number a b =
-    if◌then◌else◌ (eqb kind 0) (with_it number) (if◌then◌else◌ (eqb kind 1) (without number) (if◌then◌else◌ (eqb kind 2) (either a b) (both a b)))
+  -- a row that is given other links, or other masks
+  abbrev pub with_links : Links → List PlanRow
+  with_links links = set rows x (record { links = links; masks = masks_at })
 
--- the plan of a row, down to a depth; no plan has more than 127 rows
-unfoldable pub plan_to : ℕ → List ℕ → ℕ → Plan
+  abbrev pub with_masks : Masks → List PlanRow
+  with_masks masks = set rows x (record { links = links_at; masks = masks })
+
+abbrev pub shape : RowKind → ℕ → Plan → Plan → Plan
+shape With number a b = with_it number
+shape Without number a b = without number
+shape Either number a b = either a b
+shape Both number a b = both a b
+
+-- the plan of a row by the rows' links, down to a depth; no plan has more than 127 rows
+unfoldable pub plan_to : ℕ → (ℕ → Links) → ℕ → Plan
 plan_to zero links x = with_it 0
-plan_to (suc depth) links x = shape (kind_at links x) (left_at links x) (plan_to depth links (left_at links x)) (plan_to depth links (x + 1))
+plan_to (suc depth) links x = shape (links x).kind (links x).left (plan_to depth links (links x).left) (plan_to depth links (x + 1))
 
-unfoldable pub plan_in : List ℕ → ℕ → Plan
-plan_in links x = plan_to (127 - x) links x
+unfoldable pub plan_in : List PlanRow → ℕ → Plan
+plan_in rows x = plan_to (127 - x) (links_at rows) x
 
 -- a row with two parts
-abbrev pub Inner : ℕ → Type 0
-Inner kind = (kind ≡ 0 → ⊥) × (kind ≡ 1 → ⊥)
+abbrev pub Inner : RowKind → Type 0
+Inner With = ⊥
+Inner Without = ⊥
+Inner Either = Unit {0}
+Inner Both = Unit {0}
 
 pub record Later (end x y : ℕ) : Type 0 where
   pub up : x + 1 < y
   pub fits : y < end
 
 -- links lead to later rows
-pub record SoundLink (links : List ℕ) (end x : ℕ) : Type 0 where
-  pub left : Inner (kind_at links x) → Later end x (left_at links x)
-  pub next_up : x < next_at links x
-  pub next_in : next_at links x ≤ end
-  pub done_in : done_at links x < end
+pub record SoundLink (links : Links) (end x : ℕ) : Type 0 where
+  pub left : Inner links.kind → Later end x links.left
+  pub next_up : x < links.next
+  pub next_in : links.next ≤ end
+  pub done_in : (done : ℕ) → links.done ≡ Some done → done < end
 
 -- masks are those of the row's plan
-pub record SoundMask (links masks : List ℕ) (x : ℕ) : Type 0 where
-  pub below : below_at masks x ≡ mask (plan_in links x)
-  pub risky : risk_at masks x ≡ risk (plan_in links x)
+pub record SoundMask (rows : List PlanRow) (x : ℕ) : Type 0 where
+  pub below : below_at rows x ≡ mask (plan_in rows x)
+  pub risky : risk_at rows x ≡ risk (plan_in rows x)
 
-pub record SoundLinks (links : List ℕ) (end : ℕ) : Type 0 where
+pub record SoundLinks (rows : List PlanRow) (end : ℕ) : Type 0 where
   pub some : 0 < end
   pub few : end ≤ 127
-  pub link : (x : ℕ) → x < end → SoundLink links end x
+  pub link : (x : ℕ) → x < end → SoundLink (links_at rows x) end x
 
-pub record SoundRows (links masks : List ℕ) (end : ℕ) : Type 0 where
-  pub linked : SoundLinks links end
-  pub masked : (x : ℕ) → x < end → SoundMask links masks x
+pub record SoundRows (rows : List PlanRow) (end : ℕ) : Type 0 where
+  pub linked : SoundLinks rows end
+  pub masked : (x : ℕ) → x < end → SoundMask rows x
 
 -- one of the rows
-pub record InRows (links masks : List ℕ) (x : ℕ) : Type 0 where
+pub record InRows (rows : List PlanRow) (x : ℕ) : Type 0 where
   pub end : ℕ
-  pub rows : SoundRows links masks end
+  pub sound : SoundRows rows end
   pub here : x < end

@@ -1,19 +1,9 @@
-// Rows put into the two arrays: a leaf, or a row with two parts that are to come.
-ghost use Rattle.std.specs.Prelude.{ℕ, ◌+◌, ◌*◌, ◌^◌, ◌<◌, [], ◌∷◌, ◌≡◌};
-ghost use Rattle.std.proofs.lemmas.List.Edits.{sets};
-ghost use Rattle.rows.specs.Rows.{next_at, done_at};
-ghost use Rattle.rows.specs.Lines.{line, side_of};
+// Rows put in their place: a leaf, or a row with two parts that are to come.
+ghost use Rattle.std.specs.Prelude.{ℕ, ◌+◌, ◌^◌, ◌<◌, ◌≡◌, set};
+ghost use Rattle.rows.specs.Rows.{next_at, done_at, with_links};
+ghost use Rattle.rows.specs.Lines.{line, coming_links};
 
-use crate::fields::narrow;
-
-fn side(within: bool) -> u8
-    ensures { result ≡ side_of within }
-{
-    if within {
-        return 1;
-    }
-    0
-}
+use crate::{Links, Masks, Part, PlanRow, RowKind};
 
 // The number of the primitive that a set has alone.
 fn number(bit: u64) -> u8
@@ -22,66 +12,39 @@ fn number(bit: u64) -> u8
     u64::trailing_zeros(bit) as u8
 }
 
-pub fn put_links(links: &mut [u8; 508], row: usize, kind: u8, left: u8, next: u8, done: u8)
-    requires { row < 127 }
-    ensures { links.new ≡ sets links.old (row * 4) (line kind left next done) }
-{
-    let first = row * 4;
-    links[first] = kind;
-    links[first + 1] = left;
-    links[first + 2] = next;
-    links[first + 3] = done;
-}
-
-pub fn put_masks(masks: &mut [u64; 381], row: usize, below: u64, span: u64, risk: u64)
-    requires { row < 127 }
-    ensures { masks.new ≡ sets masks.old (row * 3) (below ∷ span ∷ risk ∷ []) }
-{
-    let first = row * 3;
-    masks[first] = below;
-    masks[first + 1] = span;
-    masks[first + 2] = risk;
-}
-
 // The links of a row with two parts, and its left- and right-hand parts as rows that are to come.
 pub fn put_pair(
-    links: &mut [u8; 508],
+    rows: &mut [PlanRow; 127],
     at: usize,
-    kind: u8,
-    left: usize,
-    lhs: usize,
-    lhs_in: bool,
-    rhs: usize,
-    rhs_in: bool,
+    own: Links,
+    lhs: Part,
+    rhs: Part,
     follows: u8,
-    precedes: u8,
+    precedes: Option<u8>,
 )
-    requires at_bound { (at + 1 < left) × (left < 127) }
-    requires lhs_bound { (lhs < 127) × (rhs < 127) }
-    ensures { links.new ≡ sets (sets (sets links.old (at * 4) (line kind left (next_at links.old at) (done_at links.old at))) ((at + 1) * 4) (line (side_of rhs_in) rhs follows 0)) (left * 4) (line (side_of lhs_in) lhs (next_at links.old at) precedes) }
+    requires at_bound { (at + 1 < own.left) × (own.left < 127) }
+    requires parts_bound { (lhs.row < 127) × (rhs.row < 127) }
+    ensures { rows.new ≡ with_links (with_links (with_links rows.old at own) (at + 1) (coming_links rhs follows None)) own.left (coming_links lhs own.next precedes) }
 {
-    let next = links[at * 4 + 2];
-    let done = links[at * 4 + 3];
-    put_links(links, at, kind, narrow(left), next, done);
-    put_links(links, at + 1, side(rhs_in), narrow(rhs), follows, 0);
-    put_links(links, left, side(lhs_in), narrow(lhs), next, precedes);
+    rows[at].links = own;
+    rows[at + 1].links = rhs.links(follows, None);
+    rows[usize::from(own.left)].links = lhs.links(own.next, precedes);
 }
 
-// The links and the masks of a leaf.
-pub fn put_leaf(
-    links: &mut [u8; 508],
-    masks: &mut [u64; 381],
-    at: usize,
-    kind: u8,
-    bit: u64,
-    span: u64,
-)
+// A leaf: what it is alone is known by the bit of its primitive.
+pub fn put_leaf(rows: &mut [PlanRow; 127], at: usize, kind: RowKind, bit: u64, span: u64)
     requires { at < 127 }
-    ensures by_index { (i : ℕ) → i < 64 → bit ≡ 2 ^ i → links.new ≡ sets links.old (at * 4) (line kind i (next_at links.old at) (done_at links.old at)) }
-    ensures masks_after { masks.new ≡ sets masks.old (at * 3) (bit ∷ span ∷ 0 ∷ []) }
+    ensures { (i : ℕ) → i < 64 → bit ≡ 2 ^ i → rows.new ≡ set rows.old at (record { links = line kind i (next_at rows.old at) (done_at rows.old at); masks = record { below = bit; span = span; risk = 0 } }) }
 {
-    let next = links[at * 4 + 2];
-    let done = links[at * 4 + 3];
-    put_links(links, at, kind, number(bit), next, done);
-    put_masks(masks, at, bit, span, 0);
+    let links = Links {
+        kind,
+        left: number(bit),
+        ..rows[at].links
+    };
+    let masks = Masks {
+        below: bit,
+        span,
+        risk: 0,
+    };
+    rows[at] = PlanRow { links, masks };
 }

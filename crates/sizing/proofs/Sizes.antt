@@ -4,7 +4,7 @@ use native.Mathlib.Nat.{eq-or-lt_of_le}
 use native.Mathlib.Omega.{arith}
 use mathlib.Core.Bool.{Bool, true, false}
 use mathlib.Core.List.{List}
-use mathlib.Core.Logic.{⊎_elim}
+use mathlib.Core.Logic.{◌⊎◌, inl, inr, ⊎_elim}
 use mathlib.Core.Path.{◌≡◌, refl, sym, ap, ◌∙◌}
 use lib.Count.{ones-le}
 use lib.IntN.{ℤ}
@@ -18,7 +18,10 @@ use Rattle.laws.specs.Plans.{Plan, with_it, without, either, both, plan, mask}
 use Rattle.laws.specs.Sound.{Sound}
 use Rattle.laws.proofs.Apart.{table_apart, mask_in_table, few_primitives}
 use Rattle.laws.proofs.Expansion.{leaves, leaves_ones}
-use Rattle.choice.specs.Steps.{side_of, plan_at}
+use Rattle.choice.specs.declared.Step.{Step}
+use Rattle.choice.specs.declared.Step.TheVariants.{With, Without, Either, Both}
+use Rattle.choice.specs.Steps.{side_of, plan_at, IsStep}
+use Rattle.choice.proofs.Steps.{as_step}
 use Rattle.rows.specs.Lines.{rows_of}
 use Rattle.sizing.specs.Sizes.{SizedTo}
 
@@ -68,3 +71,14 @@ module _ (t : List ℤ) (S : Sound t) (row : ℕ) (l : row < row_count t) (withi
   few_rows =
       let p = plan (side_of within) (tree_at t row) in
       omega (arith, rows_leaves p, leaves_ones p (table_apart t S row l (side_of within)), ones-le (length (primitives t)) (mask p) (mask_in_table t S row l (side_of within)), few_primitives t S)
+
+-- by the step that was read for a row
+module _ (t : List ℤ) (row : ℕ) (p : Plan) {step : Step} (h : IsStep t row p step) where
+  pub step_leaf : ((i : ℕ) × (step ≡ With i)) ⊎ ((i : ℕ) × (step ≡ Without i)) → 1 ≡ rows_of p
+  step_leaf (inl w) = rows_leaf true _ (as_step t row p h w.1).1
+  step_leaf (inr w) = rows_leaf false _ (as_step t row p h w.1).1
+
+  pub step_parts : {sizes : List ℕ} {a b : ℕ} → SizedTo t sizes row → ((sa : Bool) × (sb : Bool) × (step ≡ Either a sa b sb)) ⊎ ((sa : Bool) × (sb : Bool) × (step ≡ Both a sa b sb))
+      → get_or sizes a 0 + get_or sizes b 0 + 1 ≡ rows_of p
+  step_parts s (inl w) = let N = as_step t row p h w.2 in rows_pair true _ _ N.0 (s.each _ N.1 w.0) (s.each _ N.2 w.1)
+  step_parts s (inr w) = let N = as_step t row p h w.2 in rows_pair false _ _ N.0 (s.each _ N.1 w.0) (s.each _ N.2 w.1)

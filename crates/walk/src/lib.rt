@@ -5,12 +5,4 @@
 
 mod steps;
 
-use places::Place;
 pub use steps::walk;
-
-// Where a walk stops, and how many places are put aside then.
-#[derive(Clone, Copy)]
-pub struct Stop {
-    pub at: Place,
-    pub aside: usize,
-}

@@ -1,43 +1,28 @@
 -- The masks of all rows, from the last to the first. Assumes nothing.
-use Prim.Native.Nat.{◌-◌, ◌<◌}
-use native.Mathlib.Omega.{arith}
-use mathlib.Core.Bool.{Bool, false}
-use mathlib.Core.Path.{◌≡◌, subst}
-use lib.ListN.{length-replicate}
+use Rattle.std.proofs.Common.{◌≡◌, Bool, false, refl, subst, arith}
+use Rattle.std.proofs.lemmas.List.{length-replicate}
 use Rattle.filling.specs.Filling.{Fills}
-use Rattle.filling.proofs.Filling.{filling_more}
+use Rattle.filling.proofs.Filling.{row_fits, filling_more}
 use Rattle.filling.proofs.fill.Goals as goal
 
 pub loop-row-init : goal.loop-row-init
 loop-row-init c = record {
   in_range = omega arith;
-  wide = c.requires.1;
-  long = length-replicate {A = Bool} 127 false;
+  long = c.told-rows;
+  long_holes = length-replicate {A = Bool} 127 false;
   hollow = λ y u v. absurd (omega arith);
-  fills = λ meets seen h. (h, λ y u v. absurd (omega arith));
+  fills = record { links = λ y. refl; masks = λ meets seen h. (h, λ y u v. absurd (omega arith)) };
 }
 
-pub overflow_sub-row : goal.overflow_sub-row
-overflow_sub-row c = omega arith
-
 pub fill_row-requires : goal.fill_row-requires
-fill_row-requires c =
-    let s = c.before.before.before.before in
-    let x = c.loop-row.row - 1 in
-    let l : x < s.args.end = omega (arith, c.loop-row.invariant.in_range, c.loop-row-test.true) in
-    (omega (arith, s.requires.0.few), λ n. let a = (s.requires.0.link x l).left n in (a.up, omega (arith, a.fits, s.requires.0.few)))
-
-pub loop-row-smaller : goal.loop-row-smaller
-loop-row-smaller c = omega arith
+fill_row-requires c = row_fits c.requires c.loop-row.invariant c.loop-row-test.true
 
 pub loop-row-preserved : goal.loop-row-preserved
 loop-row-preserved c =
-    let in_loop = c.before.before.before.before in
-    let at_loop = in_loop.before in
-    filling_more at_loop.requires.0 at_loop.loop-row.invariant in_loop.loop-row-test.true c.fill_row.ensures.masks_after c.fill_row.ensures.holes_after
+    filling_more c.requires c.loop-row.invariant c.loop-row-test.true c.fill_row.ensures.rows_after c.fill_row.ensures.holes_after c.fill_row.array_long c.fill_row.array_long2
 
 pub returns : goal.returns
 returns c =
     let l = c.loop-row in
-    let z : l.row ≡ 0 = omega (arith, c.loop-row-test.false) in
-    subst (Fills c.args.links.now c.args.masks.now l.masks c.args.end) z l.invariant.fills
+    let none : l.row ≡ 0 = omega (arith, c.loop-row-test.false) in
+    subst (Fills c.args.rows.now l.rows c.args.end) none l.invariant.fills

@@ -1,59 +1,26 @@
--- The rows of a zone. Assumes nothing.
-use Prim.Native.Nat.{ℕ, ◌-◌, ◌<◌}
-use native.Mathlib.Omega.{arith}
-use mathlib.Core.Bool.{true}
-use mathlib.Core.Path.{◌≡◌, sym, ap, subst, ◌∙◌}
-use Rattle.rules.specs.Table.{row_count}
-use Rattle.choice.specs.Steps.{plan_at}
-use Rattle.rows.specs.Lines.{rows_of}
-use Rattle.laying.specs.Laying.{all_rows}
-use Rattle.laying.proofs.Whole.{laying_none, links_sound, laid}
-use Rattle.laying.proofs.lay.Lts as lts
-use Rattle.laying.proofs.lay.Tie as tie
-use Rattle.laying.proofs.lay.Reads as reads
+-- The rows of a zone: the root's rows are all. Assumes nothing.
+use Rattle.std.proofs.Common.{◌≡◌, true, ap, refl, subst, arith}
+use Rattle.rows.specs.declared.Links.{Links}
+use Rattle.rows.specs.declared.Part.{Part}
+use Rattle.rows.specs.Rows.{with_links}
+use Rattle.laying.specs.Laying.{Laying}
+use Rattle.laying.proofs.Whole.{laying_none, root_rows, links_sound, laid}
 use Rattle.laying.proofs.lay.Goals as goal
 
-abbrev After-wide : Type 0
-After-wide = lts.After-wide tie.the-claims reads.Pre reads.Post tie.handed_clauses
-
--- the root's rows are all
-all_rows_laid : (w : After-wide) →
-    let r = w.before.before.before.before in
-    w.wide-end.result ≡ all_rows r.args.table.now
-all_rows_laid w =
-    let r = w.before.before.before.before in
-    let s = r.before.before.before in
-    let each = r.size_rows.ensures.each in
-    let last : row_count s.args.table.now - 1 < row_count s.args.table.now = omega (arith, s.requires.given.sound.some_row) in
-    w.wide-end.ensures ∙ each r.root-root.result (subst (λ (row : ℕ). row < row_count s.args.table.now) (sym r.root-root.ensures) last) true ∙ ap (λ (row : ℕ). rows_of (plan_at s.args.table.now row true)) r.root-root.ensures
-
-pub root-root-requires : goal.root-root-requires
-root-root-requires c = c.requires.given.sound
-
-pub lay_rows-requires : goal.lay_rows-requires
-lay_rows-requires c =
-    let w = c.before.before.before in
-    let r = w.before.before.before.before in
-    let s = r.before.before.before in
-    let all = all_rows_laid w in
-    let rooted = w.narrow.ensures ∙ r.root-root.ensures in record {
-      given = (s.requires.given, r.size_rows.ensures);
-      laying = (laying_none s.args.table.now s.requires.given.sound s.args.seen s.args.links.now s.requires.links_len.0 s.requires.links_len.1 rooted (sym w.wide-end.ensures ∙ all) w.put_links.ensures, all);
-    }
+pub loop-at-init : goal.loop-at-init
+loop-at-init c =
+    let root : Part = record { row = c.root.result; within = true } in
+    let all = root_rows c.args.table.now c.requires.sound c.sizes_of-sizes.ensures c.root.ensures refl in
+    laying_none c.args.table.now c.requires.sound c.args.seen c.args.rows.now c.told-rows root c.root.ensures refl all (ap (λ (links : Links). with_links c.args.rows.now 0 links) c.links.ensures)
 
 pub fill-requires : goal.fill-requires
 fill-requires c =
-    let at_lay_rows = c.before in
-    let w = at_lay_rows.before.before.before.before in
-    let at_root = w.before.before.before.before in
-    let s = at_root.before.before.before in
-    let laying = at_lay_rows.lay_rows.ensures in
-    (links_sound s.args.table.now s.requires.given.sound (all_rows_laid w) laying, laying.long_masks)
+    let all = root_rows c.args.table.now c.requires.sound c.sizes_of-sizes.ensures c.root.ensures c.from-end.ensures in
+    let done : c.loop-at.at ≡ c.from-end.result = omega (arith, c.loop-at-test.false, c.loop-at.auto.at-end) in
+    links_sound c.args.table.now c.requires.sound all (subst (Laying c.args.table.now c.args.seen c.loop-at.rows) done c.loop-at.invariant)
 
 pub returns : goal.returns
 returns c =
-    let at_lay_rows = c.before.before in
-    let w = at_lay_rows.before.before.before.before in
-    let at_root = w.before.before.before.before in
-    let s = at_root.before.before.before in
-    laid s.args.table.now s.requires.given.sound (all_rows_laid w) at_lay_rows.lay_rows.ensures c.fill.ensures
+    let all = root_rows c.args.table.now c.requires.sound c.sizes_of-sizes.ensures c.root.ensures c.from-end.ensures in
+    let done : c.loop-at.at ≡ c.from-end.result = omega (arith, c.loop-at-test.false, c.loop-at.auto.at-end) in
+    laid c.args.table.now c.requires.sound all (subst (Laying c.args.table.now c.args.seen c.loop-at.rows) done c.loop-at.invariant) c.fill.ensures

@@ -1,86 +1,36 @@
 -- The walk from stop to stop. Assumes nothing.
-use Prim.Native.Nat.{ℕ, ◌+◌, ◌≤◌}
-use native.Mathlib.Omega.{arith}
-use lib.ListN.{length, length-replicate}
-use Rattle.places.specs.Places.{places_of}
-use Rattle.walk.specs.Tracks.{walk_at, start_of, end_of}
+use Rattle.std.proofs.Common.{List, ◌∷◌, sym, ap, subst, ◌∙◌, arith}
+use Rattle.places.specs.declared.Place.{Place}
+use Rattle.walk.specs.Tracks.{walk_at, start_of}
 use Rattle.walk.proofs.Tracks.{put_length}
-use Rattle.walk.proofs.Walked.{few_aside, walked_none, walked_all, held_top, end_fits, fewer, walked_more}
-use Rattle.walk.proofs.steps.walk.Lts as lts
-use Rattle.walk.proofs.steps.walk.Tie as tie
-use Rattle.walk.proofs.steps.walk.Reads as reads
+use Rattle.walk.proofs.Walked.{Walked, walked_none, walked_all, end_fits, fewer, walked_more}
 use Rattle.walk.proofs.steps.walk.Goals as goal
 
-abbrev After-run : Type 0
-After-run = lts.After-run tie.the-claims reads.Pre reads.Post goal.the-invariant-loop-left goal.the-decreases-loop-left tie.handed_clauses
+pub loop-from-init : goal.loop-from-init
+loop-from-init c =
+    let start = start_of c.args.seen in
+    let e = c.push.ensures ∙ ap (λ (aside : List Place). start ∷ aside) c.new-aside.ensures in
+    subst (λ (aside : List Place). Walked c.args.rows.now c.args.end (walk_at c.args.rows.now c.args.end start) c.args.keeps c.args.list.now c.args.list.now aside 0) (sym e)
+    (walked_none c.args.rows.now c.args.end start c.args.keeps c.args.list.now (omega arith))
 
-pub put_aside-requires : goal.put_aside-requires
-put_aside-requires c = (omega arith, length-replicate {A = ℕ} 256 0)
+pub finish-count-requires-clause-at_bound : goal.finish-count-requires-clause-at_bound
+finish-count-requires-clause-at_bound c =
+    omega (arith, c.requires.seen_len_bound, end_fits c.requires.sound_rows.linked c.loop-from.invariant c.in-Some.ensures c.run-at.ensures.goes c.run-at.ensures.stops)
 
-pub loop-left-init : goal.loop-left-init
-unfolding places_of
-loop-left-init c =
-    let s = c.before.before.before.before in
-    walked_none s.args.links.now s.args.masks.now s.args.end (start_of s.args.seen) s.args.keeps s.args.list.now _ (omega arith) c.put_aside.ensures.0 c.put_aside.ensures.1
+pub finish-count-requires-clause-at_in_bounds : goal.finish-count-requires-clause-at_in_bounds
+finish-count-requires-clause-at_in_bounds c k =
+    omega (
+      arith,
+      c.requires.seen_in_bounds k,
+      end_fits c.requires.sound_rows.linked c.loop-from.invariant c.in-Some.ensures c.run-at.ensures.goes c.run-at.ensures.stops,
+      put_length c.args.keeps c.loop-from.invariant.put,
+    )
 
-pub taken-from-requires : goal.taken-from-requires
-taken-from-requires c =
-    let at_put_aside = c.before.before.before in
-    few_aside at_put_aside.requires.sound_rows.linked c.loop-left.invariant c.loop-left-test.true
+pub loop-from-smaller : goal.loop-from-smaller
+loop-from-smaller c = fewer c.requires.sound_rows.linked c.loop-from.invariant c.in-Some.ensures c.run-at.ensures.goes c.run-at.ensures.stops
 
-pub run-stop-requires : goal.run-stop-requires
-run-stop-requires c =
-    let in_loop = c.before.before.before in
-    let at_loop = in_loop.before in
-    let s = at_loop.before.before.before.before in
-    let w = at_loop.loop-left.invariant in record {
-      sound_rows = s.requires.sound_rows;
-      held = (held_top s.requires.sound_rows.linked w in_loop.loop-left-test.true c.taken-from.ensures, w.long);
-    }
-
--- what is written at a stop is among the whole
-stop_fits : (m : After-run) →
-    let in_loop = m.before.before.before.before in
-    let at_loop = in_loop.before in
-    let s = at_loop.before.before.before.before in
-    at_loop.loop-left.count + length (end_of s.args.links.now s.args.masks.now s.args.end m.run-stop.result.at)
-    ≤ length (walk_at s.args.links.now s.args.masks.now s.args.end (start_of s.args.seen))
-stop_fits m =
-    let in_loop = m.before.before.before.before in
-    let at_loop = in_loop.before in
-    let s = at_loop.before.before.before.before in
-    end_fits s.requires.sound_rows.linked at_loop.loop-left.invariant in_loop.loop-left-test.true m.taken-from.ensures _ _ m.run-stop.ensures.goes m.run-stop.ensures.at_value.0
-
-pub finish-count-requires : goal.finish-count-requires
-finish-count-requires c =
-    let at_taken = c.before.before.before.before.before in
-    let at_loop = at_taken.before.before.before in
-    let s = at_loop.before.before.before.before in record {
-      sound_rows = s.requires.sound_rows;
-      at_bound = omega (arith, stop_fits c.before.before.before, s.requires.seen_len_bound);
-      at_in_bounds = λ k. omega (arith, stop_fits c.before.before.before, s.requires.seen_in_bounds k, put_length s.args.keeps at_loop.loop-left.invariant.put);
-    }
-
-pub loop-left-smaller : goal.loop-left-smaller
-loop-left-smaller c =
-    let m = c.before.before.before.before.before in
-    let at_taken = m.before.before.before in
-    let in_loop = at_taken.before.before in
-    let at_loop = in_loop.before in
-    let s = at_loop.before.before.before.before in
-    fewer s.requires.sound_rows.linked at_loop.loop-left.invariant in_loop.loop-left-test.true at_taken.taken-from.ensures _ _ m.run-stop.ensures.goes m.run-stop.ensures.at_value.0
-
-pub loop-left-preserved : goal.loop-left-preserved
-loop-left-preserved c =
-    let m = c.before.before.before.before.before in
-    let at_taken = m.before.before.before in
-    let in_loop = at_taken.before.before in
-    let at_loop = in_loop.before in
-    let s = at_loop.before.before.before.before in
-    walked_more s.requires.sound_rows.linked at_loop.loop-left.invariant in_loop.loop-left-test.true at_taken.taken-from.ensures _ _ m.run-stop.ensures.goes m.run-stop.ensures.at_value.0
-    m.run-stop.ensures.at_value.1 c.finish-count.ensures
+pub loop-from-preserved : goal.loop-from-preserved
+loop-from-preserved c = walked_more c.requires.sound_rows.linked c.loop-from.invariant c.in-Some.ensures c.run-at.ensures.goes c.run-at.ensures.stops c.finish-count.ensures
 
 pub returns : goal.returns
-returns c =
-    let at_put_aside = c.before.before in
-    walked_all at_put_aside.requires.sound_rows.linked c.loop-left.invariant (omega (arith, c.loop-left-test.false))
+returns c = walked_all c.loop-from.invariant c.in_default.ensures.0
