@@ -12,7 +12,6 @@ ghost use Rattle.flatten.specs.Forms.{form_at, Branches, Laid};
 
 use moves::Operation::{self, Diff, Inter, Union};
 use rules::Row;
-use table::Leaf;
 
 // The operation of a row and the rows of its two parts, unless the row is a primitive.
 fn node_of(table: &[i32], row: usize) -> Option<(Operation, usize, usize)>
@@ -35,10 +34,9 @@ fn count_row(table: &[i32], row: usize, n: usize) -> usize
     requires n_value { n ≡ length (primitives_before table.now row) }
     ensures { result ≡ length (primitives_before table.now (row + 1)) }
 {
-    let leaf = table::primitive_at(table, row);
-    match leaf {
-        Leaf::Solid(_) => n + 1,
-        Leaf::None => n,
+    match table::primitive_at(table, row) {
+        Some(_) => n + 1,
+        None => n,
     }
 }
 

@@ -95,7 +95,7 @@ module _ (t before work : List ℤ) where
 
     pub by_primitives : {n : ℕ} → n ≡ length (primitives t) → most_rewritten < n → TreeRewritten t before before work work (Err (record { rule = rule.Leaves; value = n }))
     by_primitives {n} e l =
-        let z : many_primitives ≡ refuse 1rule.Children n =
+        let z : many_primitives ≡ refuse rule.Leaves n =
         ap (λ (x : ℕ). refuse_unless (leb x most_rewritten) rule.Leaves x) (sym e) ∙ ap (λ (b : Bool). refuse_unless b rule.Leaves n) (lt-leb n most_rewritten l) in
         refused_by (past_table ∙ first_broken many_primitives (many_ways ∷ no_room ∷ []) z)
 
@@ -106,7 +106,7 @@ module _ (t before work : List ℤ) where
 
       pub by_ways : {n : ℕ} → n ≡ expansion (tree_of t) → most_ways < n → TreeRewritten t before before work work (Err (record { rule = rule.Ways; value = n }))
       by_ways {n} e l =
-          let z : many_ways ≡ refuse 1rule.Once n = ap (λ (x : ℕ). refuse_unless (leb x most_ways) rule.Ways x) (sym e) ∙ ap (λ (b : Bool). refuse_unless b rule.Ways n) (lt-leb n most_ways l) in
+          let z : many_ways ≡ refuse rule.Ways n = ap (λ (x : ℕ). refuse_unless (leb x most_ways) rule.Ways x) (sym e) ∙ ap (λ (b : Bool). refuse_unless b rule.Ways n) (lt-leb n most_ways l) in
           refused_by (past_primitives ∙ first_broken many_ways (no_room ∷ []) z)
 
       module _ (ways : expansion (tree_of t) ≤ most_ways) where

@@ -11,7 +11,7 @@ ghost use Rattle.rules.specs.Tree.{tree_of};
 ghost use Rattle.rules.specs.Verdict.{table_refusal};
 ghost use Rattle.rewrite.specs.Limits.{Limits, Finished};
 
-use rules::{Checked, Refusal, Written};
+use rules::{Refusal, Rule};
 
 // Within the limits: the tree in the work area, rewritten there, its rows, and the work area cleared; how many words were written.
 fn write_tree(table: &[i32], tree: &mut [i32], work: &mut [i32]) -> usize
@@ -26,37 +26,31 @@ fn write_tree(table: &[i32], tree: &mut [i32], work: &mut [i32]) -> usize
 }
 
 // The primitives and the ways are not too many: the room in both areas, then the tree.
-fn rewrite_for(table: &[i32], tree: &mut [i32], work: &mut [i32]) -> Written
+fn rewrite_for(table: &[i32], tree: &mut [i32], work: &mut [i32]) -> Result<usize, Refusal>
     requires table_value { table_refusal table.now ≡ none }
     requires table_len_bound { (length (primitives table.now) ≤ most_rewritten) × (expansion (tree_of table.now) ≤ most_ways) }
     ensures { TreeRewritten table.now tree.old tree.new work.old work.new result }
 {
     if (tree.len() < rules::REWRITE_WORDS) | (work.len() < rules::REWRITE_WORDS) {
-        return Written::Refused(Refusal {
-            number: 8,
-            value: rules::REWRITE_WORDS as u64,
-        });
+        return Err(Refusal::new(Rule::Room, rules::REWRITE_WORDS));
     }
-    Written::Wrote(write_tree(table, tree, work))
+    Ok(write_tree(table, tree, work))
 }
 
 // The table is sound: the primitives, the ways, then the rest.
-fn rewrite_in(table: &[i32], tree: &mut [i32], work: &mut [i32]) -> Written
+fn rewrite_in(table: &[i32], tree: &mut [i32], work: &mut [i32]) -> Result<usize, Refusal>
     requires { table_refusal table.now ≡ none }
     ensures { TreeRewritten table.now tree.old tree.new work.old work.new result }
 {
     let mut bits: [u64; 127] = [0; 127];
     let primitives = choice::number_rows(&mut bits, table);
     if rules::MOST_REWRITTEN < primitives {
-        return Written::Refused(Refusal {
-            number: 14,
-            value: primitives as u64,
-        });
+        return Err(Refusal::new(Rule::Leaves, primitives));
     }
     let ways = choice::ways_of(table, &bits);
     if rules::MOST_WAYS < ways {
-        return Written::Refused(Refusal {
-            number: 15,
+        return Err(Refusal {
+            rule: Rule::Ways,
             value: ways,
         });
     }
@@ -64,12 +58,9 @@ fn rewrite_in(table: &[i32], tree: &mut [i32], work: &mut [i32]) -> Written
 }
 
 // The call that zone::rewrite_tree hands on.
-pub fn rewrite_tree(table: &[i32], tree: &mut [i32], work: &mut [i32]) -> Written
+pub fn rewrite_tree(table: &[i32], tree: &mut [i32], work: &mut [i32]) -> Result<usize, Refusal>
     ensures { TreeRewritten table.now tree.old tree.new work.old work.new result }
 {
-    let checked = table::check(table);
-    match checked {
-        Checked::Refused(refusal) => Written::Refused(refusal),
-        Checked::Sound => rewrite_in(table, tree, work),
-    }
+    table::check(table)?;
+    rewrite_in(table, tree, work)
 }

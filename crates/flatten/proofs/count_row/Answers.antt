@@ -10,10 +10,10 @@ use Rattle.flatten.proofs.count_row.Goals as goal
 
 pub overflow_add-result : goal.overflow_add-result
 overflow_add-result c =
-    let few = number_fits c.args.table.now c.requires.sound c.args.row c.requires.row_bound c.in-Solid.ensures.0 in record { fits = omega (arith, c.requires.n_value) }
+    let few = number_fits c.args.table.now c.requires.sound c.args.row c.requires.row_bound c.in-Some.ensures.0 in record { fits = omega (arith, c.requires.n_value) }
 
-pub returns-in-Solid : goal.returns-in-Solid
-returns-in-Solid c = ap (λ (n : ℕ). n + 1) c.requires.n_value ∙ number_next c.requires.sound c.args.row (ap solid_of c.in-Solid.ensures.0)
+pub returns-in-Some : goal.returns-in-Some
+returns-in-Some c = ap (λ (n : ℕ). n + 1) c.requires.n_value ∙ number_next c.requires.sound c.args.row (ap solid_of c.in-Some.ensures.0)
 
 pub returns-in-None : goal.returns-in-None
 returns-in-None c = c.requires.n_value ∙ sym (add-zero _) ∙ number_next c.requires.sound c.args.row c.in-None.ensures

@@ -1,18 +1,17 @@
 -- The table, then the rest. Assumes nothing.
-use mathlib.Core.Path.{sym, ◌∙◌}
-use Rattle.rules.specs.Verdict.{table_refusal}
+use Rattle.std.specs.Prelude.{Result}
+use Prim.Native.Nat.{ℕ}
+use Rattle.rules.specs.declared.Refusal.{Refusal}
+use Rattle.rules.specs.RewriteCall.{TreeRewritten}
 use Rattle.laws.proofs.Telling.{went_on, stopped}
+use Rattle.laws.proofs.Turns.{on_exit}
 use Rattle.rewrite.proofs.Calls.{by_table}
 use Rattle.rewrite.proofs.rewrite_tree.Goals as goal
 
 pub rewrite_in-requires : goal.rewrite_in-requires
-rewrite_in-requires c =
-    let at_check = c.before.before.before in
-    let s = at_check.before in
-    went_on (table_refusal s.args.table.now) (sym c.in-Sound.is ∙ at_check.check-checked.ensures)
+rewrite_in-requires c = went_on _ c.in_ok-check.ensures
 
-pub returns-in-Refused : goal.returns-in-Refused
-returns-in-Refused c =
-    let at_check = c.before in
-    let s = at_check.before in
-    by_table s.args.table.now s.args.tree.now s.args.work.now (stopped (table_refusal s.args.table.now) (sym c.in-Refused.is ∙ at_check.check-checked.ensures))
+pub returns-in_err-check : goal.returns-in_err-check
+returns-in_err-check c =
+    on_exit (λ (r : Result ℕ Refusal). TreeRewritten c.args.table.now c.args.tree.now c.args.tree.now c.args.work.now c.args.work.now r) c.from_residual.ensures.1
+    (by_table c.args.table.now c.args.tree.now c.args.work.now (stopped _ c.in_err-check.ensures))
