@@ -22,7 +22,7 @@ use Rattle.rules.specs.Products.{box_of}
 use Rattle.rules.specs.Ranges.{within, lesser, greater, around, columns}
 use Rattle.laws.specs.Sound.{solid_right}
 use Rattle.laws.proofs.InBox.{box_holds}
-use Rattle.laws.proofs.Ranges.{framed, second, third, box_columns_in, box_codes_in, bounds_right, x_reach, y_reach, corner_x_in, corner_y_in, first_right, second_right, third_right, triangle_corners_right}
+use Rattle.laws.proofs.Ranges.{framed as has_place, second, third, box_columns_in, box_codes_in, bounds_right, x_reach, y_reach, corner_x_in, corner_y_in, first_right, second_right, third_right, triangle_corners_right}
 use Rattle.laws.proofs.Spaces.{by_axis}
 use Rattle.span.proofs.Order.{from_place, to_place}
 use Rattle.margin.specs.Margins.{spot, Margin}
@@ -34,7 +34,7 @@ use Rattle.calm.specs.Calms.{Ranged, Boxed, Bounded, edges_of}
 
 -- ends that are columns or codes have places
 ranged : (b : Box) → (within columns b.x.lo ≡ true) × (within columns b.x.hi ≡ true) → (within columns b.y.lo ≡ true) × (within columns b.y.hi ≡ true) → Ranged b
-ranged b p q = record { xlo = framed b.x.lo p.0; xhi = framed b.x.hi p.1; ylo = framed b.y.lo q.0; yhi = framed b.y.hi q.1 }
+ranged b p q = record { xlo = has_place b.x.lo p.0; xhi = has_place b.x.hi p.1; ylo = has_place b.y.lo q.0; yhi = has_place b.y.hi q.1 }
 
 box_ranged : (b : BoxShape) → box_right b ≡ true → Ranged (bounds b)
 box_ranged b h = ranged (bounds b) (box_columns_in b h) (box_codes_in b h)
@@ -113,9 +113,13 @@ module _ (s : Primitive) (right : solid_right s ≡ true) (b : BoxShape) (e : bo
       y_high : c ≤ raised Frame b.yhi
       y_high = leb-true c (raised Frame b.yhi) (and_right (leb (raised Frame b.ylo) c) (leb c (raised Frame b.yhi)) (second x y z all_in))
 
-    module _ (m : ℕ) (M : Margin s p m) where
+    -- a frame that it has not has none of it
+    pub solid_off : within (bounds b).z p.z ≡ false → (a c : ℕ) → test a c ≡ false
+    solid_off k a c = refuted (test a c) (λ t. false_true (sym k ∙ third (x a c t) (y a c t) (z a c t) (all_in a c t)))
+
+    module _ (m : ℕ) (M : Margin s p m) (framed : within (bounds b).z p.z ≡ true) where
       abbrev edges : Edges
-      edges = edges_of b p.z m
+      edges = edges_of b m
 
       abbrev column : ℕ
       column = raised Frame p.x
@@ -124,22 +128,21 @@ module _ (s : Primitive) (right : solid_right s ≡ true) (b : BoxShape) (e : bo
       code = raised Frame p.y
 
       -- between the edges is in the box
-      in_box : (a c : ℕ) → edges.framed ≡ true → Boxed edges a c → holds (box_of s) (spot p.z a c) ≡ true
-      in_box a c f B =
+      in_box : (a c : ℕ) → Boxed edges a c → holds (box_of s) (spot p.z a c) ≡ true
+      in_box a c B =
           ap (λ (box : Box). holds box (spot p.z a c)) (sym e) ∙ boxed_is a c
-          ∙ ap₂ ◌&&◌ (ap₂ ◌&&◌ (le-leb edges.xlo a B.left) (le-leb a edges.xhi B.right))
-          (ap₂ ◌&&◌ (ap₂ ◌&&◌ (le-leb edges.ylo c B.under) (le-leb c edges.yhi B.over)) f)
+          ∙ ap₂ ◌&&◌ (ap₂ ◌&&◌ (le-leb edges.columns.lo a B.left) (le-leb a edges.columns.hi B.right))
+          (ap₂ ◌&&◌ (ap₂ ◌&&◌ (le-leb edges.codes.lo c B.under) (le-leb c edges.codes.hi B.over)) framed)
 
       own : inside_solid s p ≡ test column code
       own = ap (inside_solid s) (sym (spot_here p h))
 
       pub solid_bounded : Bounded test edges column code
       solid_bounded = record {
-        off = λ k a c. refuted (test a c) (λ t. false_true (sym k ∙ third (x a c t) (y a c t) (z a c t) (all_in a c t)));
         left = λ a c l. refuted (test a c) (λ t. omega (arith, x_low a c t));
         right = λ a c l. refuted (test a c) (λ t. omega (arith, x_high a c t));
         under = λ a c l. refuted (test a c) (λ t. omega (arith, y_low a c t));
         over = λ a c l. refuted (test a c) (λ t. omega (arith, y_high a c t));
-        near = λ f a c here there close.
-            M.same a c close (subst (λ (q : Point). holds (box_of s) q ≡ true) (spot_here p h) (in_box column code f here)) (in_box a c f there) ∙ own;
+        near = λ a c here there close.
+            M.same a c close (subst (λ (q : Point). holds (box_of s) q ≡ true) (spot_here p h) (in_box column code here)) (in_box a c there) ∙ own;
       }

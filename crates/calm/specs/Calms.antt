@@ -1,5 +1,5 @@
 -- A rectangle of columns and codes on which a test says one thing. Columns and codes are places.
-use Rattle.std.specs.Prelude.{ℕ, ◌≤◌, ◌<◌, Bool, true, false, ◌≡◌, ℤ}
+use Rattle.std.specs.Prelude.{ℕ, ◌≤◌, ◌<◌, Bool, true, false, ◌≡◌}
 use Rattle.rules.specs.declared.Axis.TheVariants.{Frame}
 use Rattle.rules.specs.declared.BoxShape.{BoxShape}
 use Rattle.rules.specs.declared.Point.{Point}
@@ -14,20 +14,18 @@ use Rattle.calm.specs.declared.Rect.{Rect}
 
 -- a column and a code between the edges
 pub record Boxed (e : Edges) (a b : ℕ) : Type 0 where
-  pub left : e.xlo ≤ a
-  pub right : a ≤ e.xhi
-  pub under : e.ylo ≤ b
-  pub over : b ≤ e.yhi
+  pub left : e.columns.lo ≤ a
+  pub right : a ≤ e.columns.hi
+  pub under : e.codes.lo ≤ b
+  pub over : b ≤ e.codes.hi
 
--- a test that holds only between the edges; there it says at a place what it says at any other that is no further off than the margin; in a frame
--- that they do not have, it holds nowhere
+-- a test that holds only between the edges; there it says at a place what it says at any other that is no further off than the margin
 pub record Bounded (test : ℕ → ℕ → Bool) (e : Edges) (x v : ℕ) : Type 0 where
-  pub off : e.framed ≡ false → (a b : ℕ) → test a b ≡ false
-  pub left : (a b : ℕ) → a < e.xlo → test a b ≡ false
-  pub right : (a b : ℕ) → e.xhi < a → test a b ≡ false
-  pub under : (a b : ℕ) → b < e.ylo → test a b ≡ false
-  pub over : (a b : ℕ) → e.yhi < b → test a b ≡ false
-  pub near : e.framed ≡ true → (a b : ℕ) → Boxed e x v → Boxed e a b → Close e.margin x v a b → test a b ≡ test x v
+  pub left : (a b : ℕ) → a < e.columns.lo → test a b ≡ false
+  pub right : (a b : ℕ) → e.columns.hi < a → test a b ≡ false
+  pub under : (a b : ℕ) → b < e.codes.lo → test a b ≡ false
+  pub over : (a b : ℕ) → e.codes.hi < b → test a b ≡ false
+  pub near : (a b : ℕ) → Boxed e x v → Boxed e a b → Close e.margin x v a b → test a b ≡ test x v
 
 -- a place of the rectangle, whose columns begin with the point's own
 pub record In (a b : ℕ) (r : Rect) : Type 0 where
@@ -52,14 +50,11 @@ pub record Ranged (b : Box) : Type 0 where
   pub ylo : within frames b.y.lo ≡ true
   pub yhi : within frames b.y.hi ≡ true
 
--- the edges of a box in a frame
-abbrev pub edges_of : BoxShape → ℤ → ℕ → Edges
-edges_of b z margin = record {
-  xlo = raised Frame b.xlo;
-  xhi = raised Frame b.xhi;
-  ylo = raised Frame b.ylo;
-  yhi = raised Frame b.yhi;
-  framed = within (record { lo = b.zlo; hi = b.zhi }) z;
+-- the edges of a box
+abbrev pub edges_of : BoxShape → ℕ → Edges
+edges_of b margin = record {
+  columns = record { lo = raised Frame b.xlo; hi = raised Frame b.xhi };
+  codes = record { lo = raised Frame b.ylo; hi = raised Frame b.yhi };
   margin = margin;
 }
 

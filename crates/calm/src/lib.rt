@@ -12,89 +12,81 @@ ghost use Rattle.span.specs.Along.{places};
 ghost use Rattle.calm.specs.Calms.{edges_of, Ranged, In, Narrowed, NarrowedBy};
 
 use rules::{BoxShape, Point, Primitive};
+use span::Stretch;
 
 // Columns up to `until`, codes from `floor` to `roof`.
-#[derive(Clone, Copy)]
+#[derive(Clone, Copy, PartialEq, Eq, Debug)]
 pub struct Rect {
     pub until: u64,
     pub floor: u64,
     pub roof: u64,
 }
 
-// The edges of a primitive's box; whether it has this frame; and how far around the point its answer stays within its box.
-#[derive(Clone, Copy)]
+// The columns and codes of a primitive's box, in places; and how far around the point its answer stays within its box.
+#[derive(Clone, Copy, PartialEq, Eq, Debug)]
 pub struct Edges {
-    pub xlo: u64,
-    pub xhi: u64,
-    pub ylo: u64,
-    pub yhi: u64,
-    pub framed: bool,
+    pub columns: Stretch,
+    pub codes: Stretch,
     pub margin: u64,
 }
 
 // The rectangle, narrowed to where the primitive's answer does not change.
 fn narrow(e: Edges, x: u64, v: u64, r: Rect) -> Rect
-    requires fact { In x v r }
-    requires x_lt_places { (x < places) × ((v < places) × (e.yhi < places)) }
-    requires margin_le_places { e.margin ≤ places }
+    requires here { In x v r }
+    requires below_places { (x < places) × ((v < places) × (e.codes.hi < places)) }
+    requires margin_bound { e.margin ≤ places }
     ensures { Narrowed e x v r result }
 {
-    if !e.framed {
-        return r;
-    }
-    if e.yhi < v {
+    if e.codes.hi < v {
         return Rect {
-            until: r.until,
-            floor: span::greater(r.floor, e.yhi + 1),
-            roof: r.roof,
+            floor: r.floor.max(e.codes.hi + 1),
+            ..r
         };
     }
-    if v < e.ylo {
+    if v < e.codes.lo {
         return Rect {
-            until: r.until,
-            floor: r.floor,
-            roof: span::lesser(r.roof, e.ylo - 1),
+            roof: r.roof.min(e.codes.lo - 1),
+            ..r
         };
     }
-    if e.xhi < x {
+    if e.columns.hi < x {
         return r;
     }
-    if x < e.xlo {
+    if x < e.columns.lo {
         return Rect {
-            until: span::lesser(r.until, e.xlo - 1),
-            floor: r.floor,
-            roof: r.roof,
+            until: r.until.min(e.columns.lo - 1),
+            ..r
         };
     }
     Rect {
-        until: span::lesser(r.until, span::lesser(e.xhi, x + e.margin)),
-        floor: span::greater(r.floor, span::greater(e.ylo, span::less(v, e.margin))),
-        roof: span::lesser(r.roof, span::lesser(e.yhi, v + e.margin)),
+        until: r.until.min(e.columns.hi.min(x + e.margin)),
+        floor: r.floor.max(e.codes.lo.max(v.saturating_sub(e.margin))),
+        roof: r.roof.min(e.codes.hi.min(v + e.margin)),
     }
 }
 
-// The edges of a box in a frame.
-fn edges_of(b: BoxShape, z: i32, margin: u64) -> Edges
+fn edges_of(b: BoxShape, margin: u64) -> Edges
     requires { Ranged (bounds b) }
-    ensures { result ≡ edges_of b z margin }
+    ensures { result ≡ edges_of b margin }
 {
     Edges {
-        xlo: span::place_of(b.xlo),
-        xhi: span::place_of(b.xhi),
-        ylo: span::place_of(b.ylo),
-        yhi: span::place_of(b.yhi),
-        framed: (b.zlo <= z) & (z <= b.zhi),
+        columns: span::axis(solid::columns(b)),
+        codes: span::axis(solid::codes(b)),
         margin,
     }
 }
 
-// The rectangle, narrowed by one primitive.
+// The rectangle, narrowed by one primitive: by none of a frame that it has not.
 pub fn narrow_by(s: Primitive, p: Point, r: Rect) -> Rect
     requires s_value { solid_right s ≡ true }
     requires p_value { holds everywhere p ≡ true }
     requires fact { In (raised Frame p.x) (raised Frame p.y) r }
     ensures { NarrowedBy s p r result }
 {
-    let e = edges_of(solid::box_of(s), p.z, margin::margin(s, p));
+    let b = solid::box_of(s);
+    if !solid::frames(b).contains(p.z) {
+        return r;
+    }
+    let e = edges_of(b, margin::margin(s, p));
     narrow(e, span::place_of(p.x), span::place_of(p.y), r)
 }

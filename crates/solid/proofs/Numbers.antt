@@ -60,11 +60,17 @@ module _ (p : Point) (h : holds everywhere p ≡ true) where
   z_wide = cast_num z_num tt
 
 module _ (w : WedgeShape) (h : wedge_right w ≡ true) where
+  pub a_num : Narrow w.a 32768
+  a_num = even 32767 (a_in w h) tt
+
+  pub b_num : Narrow w.b 32768
+  b_num = even 32767 (b_in w h) tt
+
   pub a_wide : Wide w.a 32768
-  a_wide = cast_num (even 32767 (a_in w h) tt) tt
+  a_wide = cast_num a_num tt
 
   pub b_wide : Wide w.b 32768
-  b_wide = cast_num (even 32767 (b_in w h) tt) tt
+  b_wide = cast_num b_num tt
 
   pub c_wide : Wide w.c 32768
   c_wide = cast_num (even 32767 (c_in w h) tt) tt

@@ -23,7 +23,7 @@ pub struct Range {
 
 impl Range {
     // From the least of three numbers to the greatest.
-    fn around(a: i32, b: i32, c: i32) -> Range
+    pub fn around(a: i32, b: i32, c: i32) -> Range
         ensures least { result.lo ≡ (around a b c).lo }
         ensures most { result.hi ≡ (around a b c).hi }
     {

@@ -1,5 +1,5 @@
 -- Stretches of a line: an axis, a half space, two of them together, and where something else lets it through. Assumes nothing.
-use Prim.Native.Nat.{ℕ, zero, suc, ◌<◌, ◌≤◌, ◌*◌, ◌+◌, ◌/◌, ◌-◌, min, max}
+use Prim.Native.Nat.{ℕ, zero, suc, ◌<◌, ◌≤◌, ◌*◌, ◌+◌, ◌/◌, min, max}
 use native.Mathlib.Nat.{le-div_iff_mul-le, div-lt_iff_lt-mul, mul_comm, zero-mul}
 use native.Mathlib.Omega.{arith}
 use mathlib.Core.Bool.{Bool, true, false, ◌&&◌, and-true, and-false}
@@ -8,9 +8,8 @@ use borrow.Author.Tests.{leb-true, leb-false, le-leb, lt-leb, ltb-true, ltb-fals
 use lib.Dec.{leb}
 use lib.IntN.{ℤ, pos, negsuc, neg_ℤ, nat_abs, ◌*ℤ◌}
 use lib.Signed.{le_z, lt_z}
-use mir.Syntax.{w32}
-use mir.Val.{SFits, to_z, of_z}
-use mir.ValLaws.{to_z-of_z}
+use Rattle.std.proofs.lemmas.Grind.{div_ceil_times}
+use Rattle.std.specs.Int.{div_ceil}
 use Rattle.ground.proofs.Branches.{false_true, and_left, and_right, bool_both}
 use Rattle.ground.proofs.Order.{leb_same}
 use Rattle.rules.specs.declared.Axis.TheVariants.{Frame}
@@ -40,11 +39,6 @@ whole_along = record { each = λ v l. sym (ap₂ ◌&&◌ (le-leb 0 v (omega ari
 pub axis_along : (lo hi : ℤ) → within frames lo ≡ true → within frames hi ≡ true
     → Along (λ v. within (record { lo = lo; hi = hi }) (value v)) (record { lo = raised Frame lo; hi = raised Frame hi })
 axis_along lo hi g h = record { each = λ v l. ap₂ ◌&&◌ (from_place lo g v) (to_place hi h v) }
-
--- of ends that were passed
-pub axis_passed : {lo hi : ℤ} {r : Stretch} → SFits w32 lo → SFits w32 hi
-    → Along (λ v. within (record { lo = to_z w32 (of_z w32 lo); hi = to_z w32 (of_z w32 hi) }) (value v)) r → Along (λ v. within (record { lo = lo; hi = hi }) (value v)) r
-axis_passed {lo} {hi} f g A = as_along (λ v l. (λ i. within (record { lo = sym (to_z-of_z w32 lo f) i; hi = sym (to_z-of_z w32 hi g) i }) (value v))) A
 
 -- ---- two together
 
@@ -126,13 +120,21 @@ falls_all (pos zero) (pos t) h k A = as_along (λ v l. ap (λ (n : ℕ). leb n t
 falls_all (pos (suc n)) (pos t) h k A = not_positive n h
 falls_all (negsuc n) (pos t) h k A = as_along (λ v l. negated_all (suc n * v) t) A
 
-pub falls_from : (s e : ℤ) → lt_z s (pos 0) ≡ true → le_z (pos 0) e ≡ false → Half s e (record { lo = (nat_abs e - 1) / nat_abs s + 1; hi = last })
+-- a number divided, rounded up, is the one before it divided, and one
+rounded_up : (n k : ℕ) → 0 < k → div_ceil (suc n) k ≡ n / k + 1
+rounded_up n k l = go (div_ceil (suc n) k) (div_ceil_times (suc n) k l).0 (div_ceil_times (suc n) k l).1
+  where
+    go : (c : ℕ) → suc n ≤ c * k → c * k < suc n + k → c ≡ n / k + 1
+    go zero h m = absurd (omega (arith, zero-mul k))
+    go (suc c) h m =
+        let low : c ≤ n / k = (le-div_iff_mul-le {k = k} {x = c} {y = n} l).1 (omega arith) in
+        let high : n / k < suc c = (div-lt_iff_lt-mul {k = k} {x = n} {y = suc c} l).1 (omega arith) in
+        omega arith
+
+pub falls_from : (s e : ℤ) → lt_z s (pos 0) ≡ true → le_z (pos 0) e ≡ false → Half s e (record { lo = div_ceil (nat_abs e) (nat_abs s); hi = last })
 falls_from (pos n) e h k = not_negative n h
 falls_from (negsuc n) (pos t) h k = absurd (omega (arith, leb-false 0 t k))
-falls_from (negsuc n) (negsuc t) h k = subst (λ (m : ℕ). Half (negsuc n) (negsuc t) (record { lo = m / suc n + 1; hi = last })) t_again (half_falling n t)
-  where
-    t_again : t ≡ suc t - 1
-    t_again = omega arith
+falls_from (negsuc n) (negsuc t) h k = rw (rounded_up t (suc n) (omega arith)) (half_falling n t)
 
 pub flat_none : (s e : ℤ) {r : Stretch} → lt_z (pos 0) s ≡ false → lt_z s (pos 0) ≡ false → le_z (pos 0) e ≡ false → Along (λ v. false) r → Half s e r
 flat_none (pos zero) (pos t) h k m A = absurd (omega (arith, leb-false 0 t m))
@@ -148,7 +150,3 @@ some_size (negsuc n) h = omega arith
 pub some_size_below : (s : ℤ) → lt_z s (pos 0) ≡ true → 0 < nat_abs s
 some_size_below (pos n) h = not_negative n h
 some_size_below (negsuc n) h = omega arith
-
-pub not_nought : (e : ℤ) → le_z (pos 0) e ≡ false → 1 ≤ nat_abs e
-not_nought (pos n) h = absurd (omega (arith, leb-false 0 n h))
-not_nought (negsuc n) h = omega arith

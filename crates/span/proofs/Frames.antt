@@ -1,24 +1,17 @@
 -- What a primitive holds of a place's frames: a box, a drum and a triangle all of their own or none; a wedge those that its half space has. Assumes
 -- nothing.
-use native.Mathlib.Omega.{arith}
 use mathlib.Core.Bool.{Bool, true, false, ◌&&◌, and-true, and-false}
 use mathlib.Core.Path.{◌≡◌, refl, sym, ap, ◌∙◌}
 use lib.IntN.{ℤ, ◌+ℤ◌, ◌*ℤ◌}
 use lib.Signed.{le_z}
-use mir.Syntax.{w32}
-use mir.Val.{to_z, of_z}
-use mir.ValLaws.{to_z-of_z}
 use Rattle.ground.proofs.Branches.{false_true}
 use Rattle.ground.proofs.Differences.{le_over}
 use Rattle.rules.specs.declared.BoxShape.{BoxShape}
 use Rattle.rules.specs.declared.Point.{Point}
 use Rattle.rules.specs.declared.WedgeShape.{WedgeShape}
 use Rattle.rules.specs.Boxes.{holds}
-use Rattle.rules.specs.Fields.{ends_right}
 use Rattle.rules.specs.Inside.{bounds, half_space, inside_wedge}
-use Rattle.rules.specs.Ranges.{Span, within, frames}
-use Rattle.laws.proofs.Ranges.{ends_in}
-use Rattle.laws.proofs.Spans.{even_span}
+use Rattle.rules.specs.Ranges.{Span, within}
 use Rattle.span.specs.declared.Stretch.{Stretch}
 use Rattle.span.specs.Along.{value, Along, frame_point, over, plane_left}
 use Rattle.span.proofs.Along.{as_along}
@@ -31,25 +24,6 @@ module _ (s : Span) (held : Bool) {r : Stretch} where
 
   pub no_frames : held ≡ false → Along (λ v. false) r → Along (λ v. within s (value v) && held) r
   no_frames h A = as_along (λ v l. ap (λ (b : Bool). within s (value v) && b) h ∙ and-false (within s (value v))) A
-
--- frames that were passed: a frame's number comes through 32 bits as it is
-module _ (lo hi : ℤ) (right : ends_right frames lo hi ≡ true) where
-  through : (z : ℤ) → within frames z ≡ true → to_z w32 (of_z w32 z) ≡ z
-  through z h = to_z-of_z w32 z (record { sfits = omega (arith, even_span 1048575 z h) })
-
-  lo_is : to_z w32 (of_z w32 lo) ≡ lo
-  lo_is = through lo (ends_in frames lo hi right).0
-
-  hi_is : to_z w32 (of_z w32 hi) ≡ hi
-  hi_is = through hi (ends_in frames lo hi right).1
-
-  pub passed_in : (within frames (to_z w32 (of_z w32 lo)) ≡ true) × (within frames (to_z w32 (of_z w32 hi)) ≡ true)
-  passed_in = (ap (within frames) lo_is ∙ (ends_in frames lo hi right).0, ap (within frames) hi_is ∙ (ends_in frames lo hi right).1)
-
-  pub passed_frames : {held given : Bool} {r : Stretch} → held ≡ given
-      → Along (λ v. within (record { lo = to_z w32 (of_z w32 lo); hi = to_z w32 (of_z w32 hi) }) (value v) && held) r
-      → Along (λ v. within (record { lo = lo; hi = hi }) (value v) && given) r
-  passed_frames same A = as_along (λ v l. (λ i. within (record { lo = sym lo_is i; hi = sym hi_is i }) (value v) && sym same i)) A
 
 -- ---- a box: its columns and codes let its frames through
 

@@ -2,5 +2,5 @@ pub mod Order
 pub mod Along
 pub mod Shapes
 pub mod Round
-pub mod Passing
 pub mod Frames
+pub mod Lines

@@ -3,13 +3,16 @@
 use Rattle.std.specs.Prelude.{ℕ, suc, ◌<◌, ◌≤◌, ◌*◌, ◌+◌, ◌-◌, max, min, Bool, ◌&&◌, ◌≡◌, leb, ℤ, pos, ◌+ℤ◌, ◌-ℤ◌, ◌*ℤ◌}
 use Rattle.std.specs.Int.Signed.{le_z}
 use Rattle.rules.specs.declared.Axis.TheVariants.{Frame}
+use Rattle.rules.specs.declared.BoxShape.{BoxShape}
 use Rattle.rules.specs.declared.Corner.{Corner}
 use Rattle.rules.specs.declared.Point.{Point}
+use Rattle.rules.specs.declared.WedgeShape.{WedgeShape}
 use Rattle.rules.specs.Boxes.{Box}
 use Rattle.rules.specs.Inside.{square}
 use Rattle.rules.specs.ListWords.{most_word, lowered}
 use Rattle.rules.specs.Ranges.{within}
 use Rattle.rules.specs.Sides.{side}
+use Rattle.solid.specs.declared.Range.{Range}
 use Rattle.span.specs.declared.Line.{Line}
 use Rattle.span.specs.declared.Line.TheVariants.{Codes, Frames}
 use Rattle.span.specs.declared.Stretch.{Stretch}
@@ -59,9 +62,31 @@ beside b p = within b.x p.x && within b.z p.z
 abbrev pub over : Box → Point → Bool
 over b p = within b.x p.x && within b.y p.y
 
+-- the coordinates that a line's points share are a box's
+abbrev pub meets : Line → Box → Point → Bool
+meets Codes b p = beside b p
+meets Frames b p = over b p
+
+-- what a box has of the axis that a line runs along
+abbrev pub range_along : Line → BoxShape → Range
+range_along Codes b = record { lo = b.ylo; hi = b.yhi }
+range_along Frames b = record { lo = b.zlo; hi = b.zhi }
+
 -- what is left of a half space's inequality for the part of the code, or of the frame, by the two other parts
 abbrev pub plane_left : ℤ → ℤ → ℤ → ℤ → ℤ → ℤ
 plane_left a x c z d = d -ℤ (a *ℤ x +ℤ c *ℤ z)
+
+-- the slope of a wedge's plane along a line, what it adds for the axis across, and what is left of its inequality beside the slope
+abbrev pub slope_along : Line → WedgeShape → ℤ
+slope_along Codes w = w.b
+slope_along Frames w = w.c
+
+abbrev pub across : Line → WedgeShape → Point → ℤ
+across Codes w p = w.c *ℤ p.z
+across Frames w p = w.b *ℤ p.y
+
+abbrev pub left_along : Line → WedgeShape → Point → ℤ
+left_along line w p = w.d -ℤ (w.a *ℤ p.x +ℤ across line w p)
 
 -- what is left of an ellipse's inequality for the code's part
 abbrev pub ellipse_left : ℤ → ℤ → ℤ → ℤ → ℤ

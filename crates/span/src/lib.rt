@@ -2,21 +2,22 @@
 
 #![tactic(auto)]
 
-ghost use Rattle.std.specs.Prelude.{◌<◌, ◌≤◌, ◌*◌, ◌+◌, ◌-◌, max, min, true, false, ◌&&◌, ◌≡◌, pos, nat_abs, ◌+ℤ◌, ◌-ℤ◌, ◌*ℤ◌};
+ghost use Rattle.std.specs.Prelude.{◌<◌, ◌≤◌, ◌*◌, ◌+◌, true, false, ◌&&◌, ◌≡◌, pos, nat_abs, ◌*ℤ◌};
 ghost use Rattle.std.specs.Int.Signed.{le_z};
 ghost use Rattle.rules.specs.declared.Axis.TheVariants.{Frame};
 ghost use Rattle.rules.specs.declared.Primitive.TheVariants as primitive;
-ghost use Rattle.rules.specs.Ranges.{within, columns, codes, frames};
-ghost use Rattle.rules.specs.Fields.{slopes, radii, box_right, wedge_right, drum_right, corner_right, triangle_right};
+ghost use Rattle.rules.specs.Ranges.{within, frames};
+ghost use Rattle.rules.specs.Fields.{radii, box_right, wedge_right, drum_right, corner_right, corners_right, triangle_right};
 ghost use Rattle.rules.specs.Boxes.{holds, everywhere};
 ghost use Rattle.rules.specs.Inside.{bounds, in_ellipse, inside_wedge, inside_drum, inside_triangle, inside_solid};
 ghost use Rattle.rules.specs.ListWords.{raised};
 ghost use Rattle.rules.specs.Products.{box_of};
 ghost use Rattle.rules.specs.Sides.{side};
 ghost use Rattle.laws.specs.Sound.{solid_right};
-ghost use Rattle.span.specs.Along.{places, value, Along, shared, near, code_point, frame_point, point_at, beside, over, plane_left, ellipse_left, Root, ahead};
+ghost use Rattle.span.specs.Along.{places, value, Along, shared, near, code_point, point_at, beside, meets, range_along, slope_along, across, left_along, ellipse_left, Root, ahead};
 
 use rules::{BoxShape, Corner, DrumShape, Point, Primitive, TriangleShape, WedgeShape};
+use solid::Range;
 
 // What is added to a value to get its place.
 const OFFSET: i64 = rules::FRAME_OFFSET as i64;
@@ -25,29 +26,87 @@ const OFFSET: i64 = rules::FRAME_OFFSET as i64;
 pub const LAST: u64 = 2 * rules::FRAME_OFFSET - 1;
 
 // Which way a line runs through a point: along the codes of its column and frame, or along the frames of its column and code.
-#[derive(Clone, Copy)]
+#[derive(Clone, Copy, PartialEq, Eq, Debug)]
 pub enum Line {
     Codes,
     Frames,
 }
 
+impl Line {
+    // What a box has of the axis that a line runs along.
+    fn range(self, b: BoxShape) -> Range
+        ensures { result ≡ range_along self b }
+    {
+        match self {
+            Line::Codes => solid::codes(b),
+            Line::Frames => solid::frames(b),
+        }
+    }
+
+    // The coordinates that the line's points share are a box's.
+    fn meets(self, b: BoxShape, p: Point) -> bool
+        ensures { result ≡ meets self (bounds b) p }
+    {
+        let column = solid::columns(b).contains(p.x);
+        match self {
+            Line::Codes => column & solid::frames(b).contains(p.z),
+            Line::Frames => column & solid::codes(b).contains(p.y),
+        }
+    }
+
+    // How a wedge's plane rises along a line.
+    fn slope(self, w: WedgeShape) -> i32
+        ensures { result ≡ slope_along self w }
+    {
+        match self {
+            Line::Codes => w.b,
+            Line::Frames => w.c,
+        }
+    }
+
+    // What a wedge's plane adds for the axis across, of a code or of a frame that the line's points share.
+    fn across(self, w: WedgeShape, p: Point) -> i64
+        requires w_value { wedge_right w ≡ true }
+        requires p_value { holds everywhere p ≡ true }
+        ensures value { result ≡ across self w p }
+        ensures bounded { nat_abs result ≤ 34359738368 }
+    {
+        match self {
+            Line::Codes => (w.c as i64) * (p.z as i64),
+            Line::Frames => (w.b as i64) * (p.y as i64),
+        }
+    }
+}
+
 // The places lo..=hi of a line; none when lo exceeds hi.
-#[derive(Clone, Copy)]
+#[derive(Clone, Copy, PartialEq, Eq, Debug)]
 pub struct Stretch {
     pub lo: u64,
     pub hi: u64,
 }
 
-fn nothing() -> Stretch
-    ensures { Along (λ v. false) result }
-{
-    Stretch { lo: 1, hi: 0 }
-}
+impl Stretch {
+    fn nothing() -> Stretch
+        ensures { Along (λ v. false) result }
+    {
+        Stretch { lo: 1, hi: 0 }
+    }
 
-fn everything() -> Stretch
-    ensures { Along (λ v. true) result }
-{
-    Stretch { lo: 0, hi: LAST }
+    fn everything() -> Stretch
+        ensures { Along (λ v. true) result }
+    {
+        Stretch { lo: 0, hi: LAST }
+    }
+
+    // What two stretches have in common.
+    fn shared(self, other: Stretch) -> Stretch
+        ensures { result ≡ shared self other }
+    {
+        Stretch {
+            lo: self.lo.max(other.lo),
+            hi: self.hi.min(other.hi),
+        }
+    }
 }
 
 // The place of a value.
@@ -59,17 +118,6 @@ pub fn place_of(coordinate: i32) -> u64
     ((coordinate as i64) + OFFSET) as u64
 }
 
-// How far from 0 a number is.
-pub fn size(n: i64) -> u64
-    requires { nat_abs n ≤ 1000000000000000000 }
-    ensures { result ≡ nat_abs n }
-{
-    if n < 0 {
-        return (-n) as u64;
-    }
-    n as u64
-}
-
 // The places v with s v <= e.
 fn half(s: i64, e: i64) -> Stretch
     requires { (nat_abs s ≤ 1000000) × (nat_abs e ≤ 1000000000000) }
@@ -77,23 +125,23 @@ fn half(s: i64, e: i64) -> Stretch
 {
     if 0 < s {
         if e < 0 {
-            return nothing();
+            return Stretch::nothing();
         }
         return Stretch {
             lo: 0,
-            hi: size(e) / size(s),
+            hi: e.unsigned_abs() / s.unsigned_abs(),
         };
     }
     if 0 <= e {
-        return everything();
+        return Stretch::everything();
     }
     if s < 0 {
         return Stretch {
-            lo: (size(e) - 1) / size(s) + 1,
+            lo: e.unsigned_abs().div_ceil(s.unsigned_abs()),
             hi: LAST,
         };
     }
-    nothing()
+    Stretch::nothing()
 }
 
 // The places whose values y have s y <= e.
@@ -104,95 +152,52 @@ fn half_values(s: i32, e: i64) -> Stretch
     half(s as i64, e + (s as i64) * OFFSET)
 }
 
-pub fn greater(a: u64, b: u64) -> u64
-    ensures { result ≡ max a b }
-{
-    if a <= b { b } else { a }
-}
-
-pub fn lesser(a: u64, b: u64) -> u64
-    ensures { result ≡ min a b }
-{
-    if a <= b { a } else { b }
-}
-
-// a less b, and 0 where b is more.
-pub fn less(a: u64, b: u64) -> u64
-    ensures { result ≡ a - b }
-{
-    if a <= b { 0 } else { a - b }
-}
-
-// What two stretches have in common.
-fn shared(a: Stretch, b: Stretch) -> Stretch
-    ensures { result ≡ shared a b }
+// The places of a range's values.
+pub fn axis(r: Range) -> Stretch
+    requires { (within frames r.lo ≡ true) × (within frames r.hi ≡ true) }
+    ensures ends { result ≡ record { lo = raised Frame r.lo; hi = raised Frame r.hi } }
+    ensures values { Along (λ v. within (record { lo = r.lo; hi = r.hi }) (value v)) result }
 {
     Stretch {
-        lo: greater(a.lo, b.lo),
-        hi: lesser(a.hi, b.hi),
+        lo: place_of(r.lo),
+        hi: place_of(r.hi),
     }
 }
 
-// The places of the values lo..=hi.
-fn axis(lo: i32, hi: i32) -> Stretch
-    requires { (within frames lo ≡ true) × (within frames hi ≡ true) }
-    ensures { Along (λ v. within (record { lo = lo; hi = hi }) (value v)) result }
-{
-    Stretch {
-        lo: place_of(lo),
-        hi: place_of(hi),
-    }
-}
-
-fn beside_box(b: BoxShape, p: Point) -> bool
-    ensures { result ≡ beside (bounds b) p }
-{
-    ((b.xlo <= p.x) & (p.x <= b.xhi)) & ((b.zlo <= p.z) & (p.z <= b.zhi))
-}
-
-fn box_codes(b: BoxShape, p: Point) -> Stretch
+fn box_span(line: Line, b: BoxShape, p: Point) -> Stretch
     requires { box_right b ≡ true }
-    ensures { Along (λ v. holds (bounds b) (code_point p v)) result }
+    ensures { Along (λ v. holds (bounds b) (point_at line p v)) result }
 {
-    if !beside_box(b, p) {
-        return nothing();
+    if !line.meets(b, p) {
+        return Stretch::nothing();
     }
-    axis(b.ylo, b.yhi)
+    axis(line.range(b))
 }
 
-// d - (ax + cz)
-fn plane_left(a: i32, x: i32, c: i32, z: i32, d: i32) -> i64
-    requires a_value { (within slopes a ≡ true) × (within columns x ≡ true) }
-    requires c_value { (within slopes c ≡ true) × (within frames z ≡ true) }
-    ensures value { result ≡ plane_left a x c z d }
-    ensures bounded { nat_abs result ≤ 100000000000 }
-{
-    (d as i64) - ((a as i64) * (x as i64) + (c as i64) * (z as i64))
-}
-
-// The places whose values v are lo..=hi and have sv <= d - (ax + cz).
-fn sloped(lo: i32, hi: i32, s: i32, a: i32, x: i32, c: i32, z: i32, d: i32) -> Stretch
-    requires lo_value { (within frames lo ≡ true) × (within frames hi ≡ true) }
-    requires s_value { (within slopes s ≡ true) × ((within slopes a ≡ true) × (within slopes c ≡ true)) }
-    requires x_value { (within columns x ≡ true) × (within frames z ≡ true) }
-    ensures { Along (λ v. within (record { lo = lo; hi = hi }) (value v) && le_z (s *ℤ value v) (plane_left a x c z d)) result }
-{
-    shared(axis(lo, hi), half_values(s, plane_left(a, x, c, z, d)))
-}
-
-fn wedge_codes(w: WedgeShape, p: Point) -> Stretch
+// d - (ax + cz) along the codes, d - (ax + by) along the frames
+fn plane_left(line: Line, w: WedgeShape, p: Point) -> i64
     requires w_value { wedge_right w ≡ true }
     requires p_value { holds everywhere p ≡ true }
-    ensures { Along (λ v. inside_wedge w (code_point p v)) result }
+    ensures value { result ≡ left_along line w p }
+    ensures bounded { nat_abs result ≤ 100000000000 }
 {
-    let bounds = w.bounds;
-    if !beside_box(bounds, p) {
-        return nothing();
+    (w.d as i64) - ((w.a as i64) * (p.x as i64) + line.across(w, p))
+}
+
+// The places of the box's range that are on the plane's side.
+fn wedge_span(line: Line, w: WedgeShape, p: Point) -> Stretch
+    requires w_value { wedge_right w ≡ true }
+    requires p_value { holds everywhere p ≡ true }
+    ensures { Along (λ v. inside_wedge w (point_at line p v)) result }
+{
+    if !line.meets(w.bounds, p) {
+        return Stretch::nothing();
     }
-    sloped(bounds.ylo, bounds.yhi, w.b, w.a, p.x, w.c, p.z, w.d)
+    axis(line.range(w.bounds)).shared(half_values(line.slope(w), plane_left(line, w, p)))
 }
 
 // The greatest m with r2 m² <= room, at most top, by halving between one that fits and one that does not.
+// A radius is at most 4096, so that 12 halvings do; `isqrt` of room / r2 takes 32, and the division.
 fn root(r2: u64, top: u64, room: u64) -> u64
     requires r2_bound { (r2 ≤ 16777216) × (top ≤ 4096) }
     requires room_bound { room < r2 * ((top + 1) * (top + 1)) }
@@ -218,21 +223,21 @@ fn near(c: u64, m: u64) -> Stretch
     ensures { result ≡ near c m }
 {
     Stretch {
-        lo: less(c, m),
+        lo: c.saturating_sub(m),
         hi: c + m,
     }
 }
 
 // rx²ry² - ry²(x - cx)²
-fn ellipse_left(cx: i32, rx: i32, ry: i32, x: i32) -> i64
-    requires cx_value { (within columns cx ≡ true) × (within columns x ≡ true) }
-    requires rx_value { (within radii rx ≡ true) × (within radii ry ≡ true) }
-    ensures value { result ≡ ellipse_left cx rx ry x }
+fn ellipse_left(d: DrumShape, p: Point) -> i64
+    requires d_value { drum_right d ≡ true }
+    requires p_value { holds everywhere p ≡ true }
+    ensures value { result ≡ ellipse_left d.cx d.rx d.ry p.x }
     ensures bounded { nat_abs result ≤ 1000000000000000000 }
 {
-    let dx = (x as i64) - (cx as i64);
-    let u = (rx as i64) * (rx as i64);
-    let v = (ry as i64) * (ry as i64);
+    let dx = (p.x as i64) - (d.cx as i64);
+    let u = (d.rx as i64) * (d.rx as i64);
+    let v = (d.ry as i64) * (d.ry as i64);
     u * v - v * (dx * dx)
 }
 
@@ -241,27 +246,22 @@ fn radius(r: i32) -> u64
     ensures value { result ≡ nat_abs r }
     ensures bounded { result ≤ 4096 }
 {
-    size(r as i64)
+    r.unsigned_abs() as u64
 }
 
 // The places inside an ellipse of a column in its reach.
-fn ellipse(cx: i32, cy: i32, rx: i32, ry: i32, x: i32) -> Stretch
-    requires cx_value { (within columns cx ≡ true) × (within codes cy ≡ true) }
-    requires rx_value { (within radii rx ≡ true) × (within radii ry ≡ true) }
-    requires x_value { within columns x ≡ true }
-    requires x_value_2 { within (record { lo = cx -ℤ rx; hi = cx +ℤ rx }) x ≡ true }
-    ensures { Along (λ v. in_ellipse cx cy rx ry x (value v)) result }
+fn ellipse(d: DrumShape, p: Point) -> Stretch
+    requires d_value { drum_right d ≡ true }
+    requires p_value { holds everywhere p ≡ true }
+    requires in_reach { within (box_of (primitive.Drum d)).x p.x ≡ true }
+    ensures { Along (λ v. in_ellipse d.cx d.cy d.rx d.ry p.x (value v)) result }
 {
-    let left = ellipse_left(cx, rx, ry, x);
-    let a = radius(rx);
-    near(place_of(cy), root(a * a, radius(ry), size(left)))
-}
-
-fn beside_drum(d: DrumShape, p: Point) -> bool
-    requires { drum_right d ≡ true }
-    ensures { result ≡ beside (box_of (primitive.Drum d)) p }
-{
-    ((d.cx - d.rx <= p.x) & (p.x <= d.cx + d.rx)) & ((d.zlo <= p.z) & (p.z <= d.zhi))
+    let left = ellipse_left(d, p);
+    let a = radius(d.rx);
+    near(
+        place_of(d.cy),
+        root(a * a, radius(d.ry), left.unsigned_abs()),
+    )
 }
 
 fn drum_codes(d: DrumShape, p: Point) -> Stretch
@@ -269,39 +269,41 @@ fn drum_codes(d: DrumShape, p: Point) -> Stretch
     requires p_value { holds everywhere p ≡ true }
     ensures { Along (λ v. inside_drum d (code_point p v)) result }
 {
-    if !beside_drum(d, p) {
-        return nothing();
+    let bounds = solid::box_of(Primitive::Drum(d));
+    if !Line::Codes.meets(bounds, p) {
+        return Stretch::nothing();
     }
-    ellipse(d.cx, d.cy, d.rx, d.ry, p.x)
+    ellipse(d, p)
 }
 
 // The places of a column on the side >= 0 of an edge: those with (ax - bx) y <= the side at code 0.
-fn edge(a: Corner, b: Corner, x: i32) -> Stretch
-    requires a_value { (corner_right a ≡ true) × (corner_right b ≡ true) }
-    requires x_value { within columns x ≡ true }
-    ensures { Along (λ v. le_z (pos 0) (side a b x (value v))) result }
+fn edge(a: Corner, b: Corner, p: Point) -> Stretch
+    requires corners_value { (corner_right a ≡ true) × (corner_right b ≡ true) }
+    requires p_value { holds everywhere p ≡ true }
+    ensures { Along (λ v. le_z (pos 0) (side a b p.x (value v))) result }
 {
-    half_values(a.x - b.x, solid::side(a, b, x, 0))
+    half_values(a.x - b.x, solid::side(a, b, p.x, 0))
 }
 
 // The places of a column on the side >= 0 of three edges.
-fn edges(a: Corner, b: Corner, c: Corner, x: i32) -> Stretch
-    requires a_value { (corner_right a ≡ true) × ((corner_right b ≡ true) × (corner_right c ≡ true)) }
-    requires x_value { within columns x ≡ true }
-    ensures { Along (λ v. ahead a b c x (value v)) result }
+fn edges(t: TriangleShape, p: Point) -> Stretch
+    requires t_value { corners_right t ≡ true }
+    requires p_value { holds everywhere p ≡ true }
+    ensures { Along (λ v. ahead t.first t.second t.third p.x (value v)) result }
 {
-    shared(edge(a, b, x), shared(edge(b, c, x), edge(c, a, x)))
+    let two = edge(t.second, t.third, p).shared(edge(t.third, t.first, p));
+    edge(t.first, t.second, p).shared(two)
 }
 
 fn beside_triangle(t: TriangleShape, p: Point) -> bool
     ensures { result ≡ beside (box_of (primitive.Triangle t)) p }
 {
-    let a = t.first;
-    let b = t.second;
-    let c = t.third;
-    let x = p.x;
-    ((((a.x <= x) | (b.x <= x)) | (c.x <= x)) & (((x <= a.x) | (x <= b.x)) | (x <= c.x)))
-        & ((t.zlo <= p.z) & (p.z <= t.zhi))
+    let columns = Range::around(t.first.x, t.second.x, t.third.x);
+    let frames = Range {
+        lo: t.zlo,
+        hi: t.zhi,
+    };
+    columns.contains(p.x) & frames.contains(p.z)
 }
 
 // Inside, all sides are >= 0 if the corners run one way round; if they run the other way, with two of them exchanged.
@@ -311,92 +313,30 @@ fn triangle_codes(t: TriangleShape, p: Point) -> Stretch
     ensures { Along (λ v. inside_triangle t (code_point p v)) result }
 {
     if !beside_triangle(t, p) {
-        return nothing();
+        return Stretch::nothing();
     }
-    let a = t.first;
-    let b = t.second;
-    let c = t.third;
-    if 0 < solid::side(a, b, c.x, c.y) {
-        return edges(a, b, c, p.x);
+    if 0 < solid::side(t.first, t.second, t.third.x, t.third.y) {
+        return edges(t, p);
     }
-    edges(b, a, c, p.x)
-}
-
-// The frames lo..=hi where a place is held, and none where it is not.
-fn frames_if(held: bool, lo: i32, hi: i32) -> Stretch
-    requires { (within frames lo ≡ true) × (within frames hi ≡ true) }
-    ensures { Along (λ v. within (record { lo = lo; hi = hi }) (value v) && held) result }
-{
-    if held {
-        return axis(lo, hi);
-    }
-    nothing()
-}
-
-fn over_box(b: BoxShape, p: Point) -> bool
-    ensures { result ≡ over (bounds b) p }
-{
-    ((b.xlo <= p.x) & (p.x <= b.xhi)) & ((b.ylo <= p.y) & (p.y <= b.yhi))
-}
-
-fn box_frames(b: BoxShape, p: Point) -> Stretch
-    requires { box_right b ≡ true }
-    ensures { Along (λ v. holds (bounds b) (frame_point p v)) result }
-{
-    frames_if(over_box(b, p), b.zlo, b.zhi)
-}
-
-fn wedge_frames(w: WedgeShape, p: Point) -> Stretch
-    requires w_value { wedge_right w ≡ true }
-    requires p_value { holds everywhere p ≡ true }
-    ensures { Along (λ v. inside_wedge w (frame_point p v)) result }
-{
-    let bounds = w.bounds;
-    if !over_box(bounds, p) {
-        return nothing();
-    }
-    sloped(bounds.zlo, bounds.zhi, w.c, w.a, p.x, w.b, p.y, w.d)
-}
-
-fn drum_frames(d: DrumShape, p: Point) -> Stretch
-    requires d_value { drum_right d ≡ true }
-    requires p_value { holds everywhere p ≡ true }
-    ensures { Along (λ v. inside_drum d (frame_point p v)) result }
-{
-    frames_if(
-        solid::in_ellipse(d.cx, d.cy, d.rx, d.ry, p.x, p.y),
-        d.zlo,
-        d.zhi,
+    edges(
+        TriangleShape {
+            first: t.second,
+            second: t.first,
+            ..t
+        },
+        p,
     )
 }
 
-fn triangle_frames(t: TriangleShape, p: Point) -> Stretch
-    requires t_value { triangle_right t ≡ true }
-    requires p_value { holds everywhere p ≡ true }
-    ensures { Along (λ v. inside_triangle t (frame_point p v)) result }
+// The frames of a range where a place is held, and none where it is not.
+fn frames_if(held: bool, r: Range) -> Stretch
+    requires { (within frames r.lo ≡ true) × (within frames r.hi ≡ true) }
+    ensures { Along (λ v. within (record { lo = r.lo; hi = r.hi }) (value v) && held) result }
 {
-    frames_if(solid::in_corners(t, p.x, p.y), t.zlo, t.zhi)
-}
-
-fn box_span(line: Line, b: BoxShape, p: Point) -> Stretch
-    requires { box_right b ≡ true }
-    ensures { Along (λ v. holds (bounds b) (point_at line p v)) result }
-{
-    match line {
-        Line::Codes => box_codes(b, p),
-        Line::Frames => box_frames(b, p),
+    if held {
+        return axis(r);
     }
-}
-
-fn wedge_span(line: Line, w: WedgeShape, p: Point) -> Stretch
-    requires w_value { wedge_right w ≡ true }
-    requires p_value { holds everywhere p ≡ true }
-    ensures { Along (λ v. inside_wedge w (point_at line p v)) result }
-{
-    match line {
-        Line::Codes => wedge_codes(w, p),
-        Line::Frames => wedge_frames(w, p),
-    }
+    Stretch::nothing()
 }
 
 fn drum_span(line: Line, d: DrumShape, p: Point) -> Stretch
@@ -406,7 +346,13 @@ fn drum_span(line: Line, d: DrumShape, p: Point) -> Stretch
 {
     match line {
         Line::Codes => drum_codes(d, p),
-        Line::Frames => drum_frames(d, p),
+        Line::Frames => frames_if(
+            solid::in_ellipse(d, p),
+            Range {
+                lo: d.zlo,
+                hi: d.zhi,
+            },
+        ),
     }
 }
 
@@ -417,7 +363,13 @@ fn triangle_span(line: Line, t: TriangleShape, p: Point) -> Stretch
 {
     match line {
         Line::Codes => triangle_codes(t, p),
-        Line::Frames => triangle_frames(t, p),
+        Line::Frames => frames_if(
+            solid::in_corners(t, p),
+            Range {
+                lo: t.zlo,
+                hi: t.zhi,
+            },
+        ),
     }
 }
 

@@ -1,90 +1,57 @@
-use Prim.Native.Nat.{ℕ, ◌≤◌, ◌<◌}
-use mathlib.Core.Path.{◌≡◌, sym, ap, subst, ◌∙◌}
-use borrow.Author.Rules.{rules}
-use lib.IntN.{ℤ}
-use mir.Syntax.{w32}
-use mir.Val.{SFits, to_z, of_z}
-use mir.ValLaws.{to_z-of_z}
-use Rattle.ground.proofs.Signed.{reread}
+-- Where the primitive has the frame, its edges bound its answers; else it has none of it, and the rectangle stays.
+use mathlib.Core.Path.{sym, ap, ◌∙◌}
 use Rattle.rules.specs.declared.Axis.TheVariants.{Frame}
+use Rattle.rules.specs.Inside.{inside_solid}
 use Rattle.rules.specs.ListWords.{raised}
-use Rattle.rules.specs.Ranges.{within, frames}
+use Rattle.rules.specs.Ranges.{within}
 use Rattle.laws.proofs.Ranges.{framed, x_in, y_in}
-use Rattle.span.specs.Along.{places}
+use Rattle.solid.proofs.Numbers.{x_num, y_num, z_num}
 use Rattle.span.proofs.Order.{place_below}
-use Rattle.calm.specs.declared.Edges.{Edges}
-use Rattle.calm.specs.Calms.{edges_of, Narrowed}
-use Rattle.calm.proofs.Bounding.{bounds_ranged, solid_bounded}
-use Rattle.calm.proofs.narrow_by.Lts as lts
-use Rattle.calm.proofs.narrow_by.Tie as tie
-use Rattle.calm.proofs.narrow_by.Reads as reads
+use Rattle.margin.specs.Margins.{spot}
+use Rattle.calm.proofs.Bounding.{bounds_ranged, solid_off, solid_bounded}
+use Rattle.calm.proofs.Rects.{by_none}
 use Rattle.calm.proofs.narrow_by.Goals as goal
 
-abbrev Start : Type 0
-Start = lts.Start tie.the-claims reads.Pre reads.Post tie.handed_clauses
-
-abbrev After-edges_of : Type 0
-After-edges_of = lts.After-edges_of tie.the-claims reads.Pre reads.Post tie.handed_clauses
-
-abbrev After-box_of : Type 0
-After-box_of = lts.After-box_of tie.the-claims reads.Pre reads.Post tie.handed_clauses
-
-record Fits (s : Start) : Type 0 where
-  x : SFits w32 s.args.p.x
-  y : SFits w32 s.args.p.y
-  z : SFits w32 s.args.p.z
-
-fits : (s : Start) → Fits s
-fits s = record { x = search rules; y = search rules; z = search rules }
+pub returns-then-not-contains : goal.returns-then-not-contains
+returns-then-not-contains c =
+    let s = c.args.s in
+    let p = c.args.p in
+    let h = c.requires.p_value in
+    let is = c.contains.ensures ∙ (λ i. within (record { lo = (c.frames.ensures i).lo; hi = (c.frames.ensures i).hi }) ((z_num p h).reads i)) in
+    let off = solid_off s c.requires.s_value c.box_of-b.result c.box_of-b.ensures p h (sym is ∙ c.if-not-contains.true) in
+    record { here = c.requires.fact; part = λ a b J. J; same = by_none {test = λ a b. inside_solid s (spot p.z a b)} c.requires.fact (λ a b l J. off a b) }
 
 pub edges_of-e-requires : goal.edges_of-e-requires
-edges_of-e-requires c =
-    let b = c.before.before.before in
-    bounds_ranged b.args.s b.requires.s_value b.box_of.result b.box_of.ensures
+edges_of-e-requires c = bounds_ranged c.args.s c.requires.s_value c.box_of-b.result c.box_of-b.ensures
 
 pub place_of-requires : goal.place_of-requires
-place_of-requires c = let s = c.before.before.before.before.before.before in reread w32 (within frames) (fits s).x (framed s.args.p.x (x_in s.args.p s.requires.p_value))
+place_of-requires c = let p = c.args.p in let h = c.requires.p_value in rw (x_num p h).reads (framed p.x (x_in p h))
 
 pub place_of-requires-2 : goal.place_of-requires-2
-place_of-requires-2 c = let s = c.before.before.before.before.before.before.before.before in reread w32 (within frames) (fits s).y (framed s.args.p.y (y_in s.args.p s.requires.p_value))
-
--- the edges, and the two places
-module _ (c : After-edges_of) where
-  abbrev boxed : After-box_of
-  boxed = c.before.before.before
-
-  abbrev start : Start
-  start = boxed.before
-
-  abbrev margin : ℕ
-  margin = c.margin.result
-
-  edges_are : c.edges_of-e.result ≡ edges_of boxed.box_of.result start.args.p.z margin
-  edges_are = c.edges_of-e.ensures ∙ ap (λ (z : ℤ). edges_of boxed.box_of.result z margin) (to_z-of_z w32 start.args.p.z (fits start).z)
-
-  x_is : {n : ℕ} → n ≡ raised Frame (to_z w32 (of_z w32 start.args.p.x)) → n ≡ raised Frame start.args.p.x
-  x_is h = h ∙ ap (raised Frame) (to_z-of_z w32 start.args.p.x (fits start).x)
-
-  y_is : {n : ℕ} → n ≡ raised Frame (to_z w32 (of_z w32 start.args.p.y)) → n ≡ raised Frame start.args.p.y
-  y_is h = h ∙ ap (raised Frame) (to_z-of_z w32 start.args.p.y (fits start).y)
+place_of-requires-2 c = let p = c.args.p in let h = c.requires.p_value in rw (y_num p h).reads (framed p.y (y_in p h))
 
 pub narrow-requires : goal.narrow-requires
 narrow-requires c =
-    let d = c.before.before.before.before in
-    let s = start d in
-    let R = bounds_ranged s.args.s s.requires.s_value (boxed d).box_of.result (boxed d).box_of.ensures in
-    let yhi : d.edges_of-e.result.yhi < places = subst (λ (e : Edges). e.yhi < places) (sym (edges_are d)) (place_below (boxed d).box_of.result.yhi R.yhi) in
-    let near : d.edges_of-e.result.margin ≤ places = subst (λ (e : Edges). e.margin ≤ places) (sym (edges_are d)) d.margin.ensures.bounded in record {
-      fact = rw (x_is d c.place_of.ensures.value, y_is d c.place_of-2.ensures.value) s.requires.fact;
-      x_lt_places = (c.place_of.ensures.bounded, (c.place_of-2.ensures.bounded, yhi));
-      margin_le_places = near;
+    let p = c.args.p in
+    let h = c.requires.p_value in
+    let b = c.box_of-b.result in
+    let x = c.place_of.ensures.value ∙ ap (raised Frame) (x_num p h).reads in
+    let y = c.place_of-2.ensures.value ∙ ap (raised Frame) (y_num p h).reads in
+    let R = bounds_ranged c.args.s c.requires.s_value b c.box_of-b.ensures in record {
+      here = rw (x, y) c.requires.fact;
+      below_places = (c.place_of.ensures.bounded, (c.place_of-2.ensures.bounded, rw c.edges_of-e.ensures (place_below b.yhi R.yhi)));
+      margin_bound = rw c.edges_of-e.ensures c.margin.ensures.bounded;
     }
 
 pub returns : goal.returns
 returns c =
-    let d = c.before.before.before.before.before in
-    let s = start d in
-    let p = s.args.p in
-    let N : Narrowed (edges_of (boxed d).box_of.result p.z (margin d)) (raised Frame p.x) (raised Frame p.y) s.args.r c.narrow.result =
-    rw (edges_are d, x_is d c.place_of.ensures.value, y_is d c.place_of-2.ensures.value) at c.narrow.ensures in
-    record { here = N.here; part = N.part; same = N.same _ (solid_bounded s.args.s s.requires.s_value (boxed d).box_of.result (boxed d).box_of.ensures p s.requires.p_value (margin d) d.margin.ensures.margin) }
+    let s = c.args.s in
+    let p = c.args.p in
+    let h = c.requires.p_value in
+    let b = c.box_of-b.result in
+    let x = c.place_of.ensures.value ∙ ap (raised Frame) (x_num p h).reads in
+    let y = c.place_of-2.ensures.value ∙ ap (raised Frame) (y_num p h).reads in
+    let is = c.contains.ensures ∙ (λ i. within (record { lo = (c.frames.ensures i).lo; hi = (c.frames.ensures i).hi }) ((z_num p h).reads i)) in
+    let N = rw (c.edges_of-e.ensures, x, y) at c.narrow.ensures in
+    let bounded = solid_bounded s c.requires.s_value b c.box_of-b.ensures p h c.margin.result c.margin.ensures.margin (sym is ∙ c.if-not-contains.false) in
+    record { here = N.here; part = N.part; same = N.same (λ a b'. inside_solid s (spot p.z a b')) bounded }

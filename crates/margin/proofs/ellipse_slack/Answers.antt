@@ -1,49 +1,41 @@
 use Prim.Native.Nat.{◌+◌}
 use native.Mathlib.Nat.{le_refl}
-use mathlib.Core.Path.{◌≡◌, ap₂, ◌∙◌}
-use mir.Syntax.{w32, w64}
-use mir.Val.{to_z, of_z}
-use mir.ValLaws.{to_z-of_z}
+use mathlib.Core.Path.{ap₂, ◌∙◌}
+use mir.Syntax.{w64}
 use Rattle.ground.proofs.Signed.{read}
-use Rattle.margin.specs.Edges.{past_ellipse, bend_weight}
+use Rattle.laws.proofs.Ranges.{x_in, y_in, cx_in, cy_in, rx_in, ry_in}
+use Rattle.solid.proofs.Numbers.{x_num, y_num, cx_num, cy_num, rx_num, ry_num}
+use Rattle.margin.specs.Edges.{bend_weight}
 use Rattle.margin.proofs.Signs.{slack_as}
-use Rattle.margin.proofs.ellipse_slack.Lts as lts
-use Rattle.margin.proofs.ellipse_slack.Tie as tie
-use Rattle.margin.proofs.ellipse_slack.Reads as reads
 use Rattle.margin.proofs.ellipse_slack.Goals as goal
 
-abbrev Start : Type 0
-Start = lts.Start tie.the-claims reads.Pre reads.Post tie.handed_clauses
-
--- what was passed on, as it is read back
-module _ (s : Start) where
-  cx : to_z w32 (of_z w32 s.args.cx) ≡ s.args.cx
-  cx = to_z-of_z w32 s.args.cx s.ranges.cx
-
-  cy : to_z w32 (of_z w32 s.args.cy) ≡ s.args.cy
-  cy = to_z-of_z w32 s.args.cy s.ranges.cy
-
-  rx : to_z w32 (of_z w32 s.args.rx) ≡ s.args.rx
-  rx = to_z-of_z w32 s.args.rx s.ranges.rx
-
-  ry : to_z w32 (of_z w32 s.args.ry) ≡ s.args.ry
-  ry = to_z-of_z w32 s.args.ry s.ranges.ry
-
-  x : to_z w32 (of_z w32 s.args.x) ≡ s.args.x
-  x = to_z-of_z w32 s.args.x s.ranges.x
-
-  y : to_z w32 (of_z w32 s.args.y) ≡ s.args.y
-  y = to_z-of_z w32 s.args.y s.ranges.y
-
-pub returns : goal.returns
-returns c =
-    let past = c.before in
-    let along = past.before in
-    let across = along.before in
-    let s = across.before in
-    let past_is = read w64 past.past_ellipse.type_inv past.past_ellipse.ensures.value ∙ λ i. past_ellipse (cx s i) (cy s i) (rx s i) (ry s i) (x s i) (y s i) in
-    let across_is = across.bend_weight.ensures.value ∙ λ i. bend_weight (ry s i) (cx s i) (x s i) in
-    let along_is = along.bend_weight-2.ensures.value ∙ λ i. bend_weight (rx s i) (cy s i) (y s i) in record {
-      slack = slack_as (le_refl c.slack.result) past_is (ap₂ ◌+◌ across_is along_is) c.slack.ensures.slack;
-      bounded = c.slack.ensures.bounded;
+pub bend_weight-requires : goal.bend_weight-requires
+bend_weight-requires c =
+    let d = c.args.d in
+    let p = c.args.p in
+    let h = c.requires.d_value in
+    let k = c.requires.p_value in record {
+      radius_value = rw (ry_num d h).reads (ry_in d h);
+      centre_value = (rw (cx_num d h).reads (cx_in d h), rw (x_num p k).reads (x_in p k));
     }
+
+pub bend_weight-requires-2 : goal.bend_weight-requires-2
+bend_weight-requires-2 c =
+    let d = c.args.d in
+    let p = c.args.p in
+    let h = c.requires.d_value in
+    let k = c.requires.p_value in record {
+      radius_value = rw (rx_num d h).reads (rx_in d h);
+      centre_value = (rw (cy_num d h).reads (cy_in d h), rw (y_num p k).reads (y_in p k));
+    }
+
+pub returns-clause-slack : goal.returns-clause-slack
+returns-clause-slack c =
+    let d = c.args.d in
+    let p = c.args.p in
+    let h = c.requires.d_value in
+    let k = c.requires.p_value in
+    let across = c.bend_weight.ensures.value ∙ λ i. bend_weight ((ry_num d h).reads i) ((cx_num d h).reads i) ((x_num p k).reads i) in
+    let along = c.bend_weight-2.ensures.value ∙ λ i. bend_weight ((rx_num d h).reads i) ((cy_num d h).reads i) ((y_num p k).reads i) in
+    let past = read w64 c.past_ellipse.type_inv c.past_ellipse.ensures.value in
+    slack_as (le_refl c.slack.result) past (ap₂ ◌+◌ across along) c.slack.ensures.slack

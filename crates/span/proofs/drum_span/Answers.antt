@@ -1,7 +1,6 @@
+use Rattle.laws.proofs.Ranges.{frames_of_drum}
+use Rattle.span.proofs.Lines.{ends_read}
 use Rattle.span.proofs.drum_span.Goals as goal
 
-pub returns-in-Codes : goal.returns-in-Codes
-returns-in-Codes c = rw c.in-Codes.is c.drum_codes.ensures
-
-pub returns-in-Frames : goal.returns-in-Frames
-returns-in-Frames c = rw c.in-Frames.is c.drum_frames.ensures
+pub frames_if-requires : goal.frames_if-requires
+frames_if-requires c = ends_read c.args.d.zlo c.args.d.zhi (frames_of_drum c.args.d c.requires.d_value)

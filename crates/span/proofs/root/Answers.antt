@@ -17,38 +17,11 @@ square_le i = mul-le-mul (mid_le i) (mid_le i)
 largest : 16777216 * (4097 * 4097) < 18446744073709551616
 largest = omega arith
 
-pub overflow_add-over : goal.overflow_add-over
-overflow_add-over c = omega arith
-
-pub loop-fits-init : goal.loop-fits-init
-loop-fits-init c = omega arith
-
-pub overflow_add-fits : goal.overflow_add-fits
-overflow_add-fits c = omega arith
-
-pub overflow_sub-m : goal.overflow_sub-m
-overflow_sub-m c = omega arith
-
-pub overflow_add-m : goal.overflow_add-m
-overflow_add-m c = omega arith
-
 pub overflow_mul-m : goal.overflow_mul-m
 overflow_mul-m c = omega (arith, square_le c.loop-fits.invariant)
 
 pub overflow_mul-r2 : goal.overflow_mul-r2
 overflow_mul-r2 c = record { fits = lt_of_le_of_lt (mul-le-mul c.requires.r2_bound.0 (square_le c.loop-fits.invariant)) largest }
-
-pub loop-fits-smaller-then-r2-m : goal.loop-fits-smaller-then-r2-m
-loop-fits-smaller-then-r2-m c = omega arith
-
-pub loop-fits-preserved-then-r2-m : goal.loop-fits-preserved-then-r2-m
-loop-fits-preserved-then-r2-m c = omega arith
-
-pub loop-fits-smaller : goal.loop-fits-smaller
-loop-fits-smaller c = omega arith
-
-pub loop-fits-preserved : goal.loop-fits-preserved
-loop-fits-preserved c = omega arith
 
 pub returns : goal.returns
 returns c =

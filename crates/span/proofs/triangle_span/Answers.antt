@@ -1,7 +1,9 @@
+use Rattle.laws.proofs.Ranges.{triangle_corners_right, frames_of_triangle}
+use Rattle.span.proofs.Lines.{ends_read}
 use Rattle.span.proofs.triangle_span.Goals as goal
 
-pub returns-in-Codes : goal.returns-in-Codes
-returns-in-Codes c = rw c.in-Codes.is c.triangle_codes.ensures
+pub in_corners-requires : goal.in_corners-requires
+in_corners-requires c = record { t_value = triangle_corners_right c.args.t c.requires.t_value; p_value = c.requires.p_value }
 
-pub returns-in-Frames : goal.returns-in-Frames
-returns-in-Frames c = rw c.in-Frames.is c.triangle_frames.ensures
+pub frames_if-requires : goal.frames_if-requires
+frames_if-requires c = ends_read c.args.t.zlo c.args.t.zhi (frames_of_triangle c.args.t c.requires.t_value)
