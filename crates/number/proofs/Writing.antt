@@ -48,17 +48,18 @@ put_size {before} {bytes} {at = at} p = ap length p.buffer ∙ length-sets befor
 
 -- ---- copying
 
--- a part of the buffer that is overwritten by the bytes
+-- a part that is overwritten
+pub part_written : {A : Type 0} (before : List A) (at : ℕ) {xs part : List A} {size : ℕ} → at + length xs ≤ length before → part ≡ xs → size ≡ length xs
+    → put_mid at size before part ≡ sets before at xs
+part_written {A} before at {xs} {part} {size} room same is =
+    put_mid-paste at size before part xs size same refl is
+    ∙ (λ i. take at before ++ take (is i) xs ++ drop (at + is i) before)
+    ∙ ap (λ (ys : List A). take at before ++ ys ++ drop (at + length xs) before) (take-length xs)
+    ∙ sym (sets-eq xs before at room)
+
 pub put_copied : {before bytes part : List ℕ} {at : ℕ} → at + length bytes ≤ length before → part ≡ bytes
     → Put before at bytes (put_mid at (at + length bytes - at) before part) (at + length bytes)
-put_copied {before} {bytes} {part} {at} room same =
-    let all : length bytes ≡ at + length bytes - at = omega arith in record {
-      end = refl;
-      buffer =
-          put_mid-paste at (at + length bytes - at) before part bytes (length bytes) same all refl
-          ∙ ap (λ (ys : List ℕ). take at before ++ ys ++ drop (at + length bytes) before) (take-length bytes)
-          ∙ sym (sets-eq bytes before at room);
-    }
+put_copied {before} {at = at} room same = record { end = refl; buffer = part_written before at room same (omega arith) }
 
 -- the first i bytes were put
 pub record Copying (before : List ℕ) (at : ℕ) (bytes text : List ℕ) (i : ℕ) : Type 0 where
