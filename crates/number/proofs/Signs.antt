@@ -2,16 +2,18 @@
 use Prim.Native.Nat.{ℕ, suc, ◌+◌, ◌<◌}
 use native.Mathlib.Nat.{le_refl}
 use native.Mathlib.Omega.{arith}
-use mathlib.Core.Bool.{true, false}
+use mathlib.Core.Bool.{Bool, true, false}
 use mathlib.Core.List.{List, ◌∷◌}
-use mathlib.Core.Path.{◌≡◌, sym, ap, ◌∙◌}
+use mathlib.Core.Path.{◌≡◌, refl, sym, ap, ◌∙◌}
 use borrow.Author.Tests.{ltb-true}
 use lib.Dec.{T}
 use lib.IntN.{ℤ, pos, negsuc, neg_ℤ, nat_abs, ◌-ℤ◌, +ℤ_idl}
+use lib.ListN.{length}
 use lib.Signed.{mag, lt_z, non_neg}
 use mir.Syntax.{w32, w64}
 use mir.Val.{SFits, to_z, of_z}
 use mir.ValLaws.{to_z-of_z}
+use Rattle.std.specs.Int.{from_bool}
 use Rattle.ground.proofs.Branches.{false_true}
 use Rattle.ground.proofs.Num.{Num, Fit, unsigned, sub_fits, sub_num}
 use Rattle.rules.specs.Text.{minus, number_text}
@@ -59,3 +61,12 @@ module _ (z : ℤ) (f : SFits w32 z) {n : ℕ} (m : n ≡ nat_abs (to_z w32 (of_
 
   pub without_minus : lt_z (to_z w32 (of_z w32 z)) (pos 0) ≡ false → number_text z ≡ word_text n
   without_minus h = above_text z f.sfits (rw lent at h) ∙ ap word_text (sym (m ∙ ap nat_abs lent))
+
+  -- a minus is one byte more
+  pub signed_size : length (word_text n) + from_bool (lt_z (to_z w32 (of_z w32 z)) (pos 0)) ≡ length (number_text z)
+  signed_size = go (lt_z (to_z w32 (of_z w32 z)) (pos 0)) with_minus without_minus
+    where
+      go : (b : Bool) → (b ≡ true → number_text z ≡ minus ∷ word_text n) → (b ≡ false → number_text z ≡ word_text n)
+          → length (word_text n) + from_bool b ≡ length (number_text z)
+      go true below above = omega (arith, ap length (below refl))
+      go false below above = omega (arith, ap length (above refl))

@@ -1,26 +1,39 @@
 -- Pieces of a text, one after the other: what is read of each tells what is read of the whole. Assumes nothing.
-use Prim.Native.Nat.{ℕ, ◌+◌, ◌-◌, ◌≤◌, ◌<◌}
-use native.Mathlib.Nat.{add-zero}
+use Prim.Native.Nat.{ℕ, suc, ◌+◌, ◌-◌, ◌≤◌, ◌<◌}
+use native.Mathlib.Numerals.{add-one}
 use native.Mathlib.Omega.{arith}
-use mathlib.Core.Bool.{Bool, true, false, ◌&&◌}
-use mathlib.Core.List.{List, [], ◌∷◌, ◌++◌, flat_map, append_assoc}
+use mathlib.Core.Bool.{Bool, true, false}
+use mathlib.Core.List.{List, [], ◌∷◌, ◌++◌, flat_map, append-nil, append_assoc}
 use mathlib.Core.Path.{◌≡◌, refl, sym, ap, subst, ◌∙◌}
-use borrow.Author.Tests.{le-leb, leb-true}
-use lib.Dec.{leb}
+use lib.Dec.{eqb}
 use lib.IntN.{ℤ, pos, negsuc, nat_abs}
-use lib.ListN.{length, take, drop, length-append, length-drop, take-append-drop}
-use lib.Seq.{drop-drop, drop-append_seam, take-append_seam}
-use lib.Signed.{le_z}
-use Rattle.ground.specs.Tests.{Says}
-use Rattle.ground.proofs.Branches.{false_true, and_left, and_right, says_holds, holds_said}
+use lib.ListN.{length, get_or, take, drop, set, length-append, length-drop, length-set}
+use lib.Seq.{drop-drop, drop-cons, drop-append_seam, take-suc, take-suc-set, take_all, sets}
+use borrow.Rule.Slice.PartMut.{put_mid}
+use denote.Enum.Declared.{tag_of}
+use mir.Syntax.{w32}
+use mir.Val.{to_z}
+use Rattle.std.specs.Bool.{then_some}
+use Rattle.std.specs.List.{starts_with}
+use Rattle.std.specs.Int.{FitsUnsignedBits}
+use Rattle.std.specs.Prelude.{Option, None, Some, Result, Ok, Err, OkIff}
+use Rattle.std.specs.Result.{result_ok}
+use Rattle.std.proofs.lemmas.Bool.Decides.{Decides-eqb}
+use Rattle.std.proofs.lemmas.Slice.Eq.{starts_is}
+use Rattle.ground.specs.Lists.{All}
+use Rattle.ground.proofs.Branches.{false_true}
+use Rattle.ground.proofs.Lists.{all_append, all_at, flat_map_append}
+use Rattle.rules.specs.contracts.Kind.{the_type}
 use Rattle.rules.specs.declared.Kind.{Kind}
-use Rattle.rules.specs.Kinds.{named_words}
+use Rattle.rules.specs.declared.Kind.TheVariants.{Box, Wedge, Drum, Union, Inter, Diff, Triangle}
+use Rattle.rules.specs.Kinds.{kind_number, named_words}
 use Rattle.rules.specs.Text.{tab, line_feed, number_text, zone_name, kind_name, header_line, field_text, line_of}
-use Rattle.rules.specs.TextForm.{RightRow}
-use Rattle.rules.proofs.Lines.{name_once, no_row}
-use Rattle.number.specs.declared.Number.{Number}
-use Rattle.number.specs.Reading.{Ended, ReadsNumber}
-use Rattle.piece.specs.Pieces.{Stood, Reads, Any, ReadsBytes, TriesName, ReadsName, ReadsField, Fields, RightCount, ReadsCount}
+use Rattle.rules.specs.TextForm.{Word32, RightRow}
+use Rattle.rules.proofs.Lines.{name_once}
+use Rattle.number.specs.declared.Found.{Found}
+use Rattle.number.specs.Reading.{Ended, found, ReadsNumber}
+use Rattle.number.proofs.Writing.{part_written}
+use Rattle.piece.specs.Pieces.{Stood, Missing, There, Any, ReadsBytes, ReadsField, Fields, ReadsLine, RightCount}
 
 -- a line: something that begins it, something after that, and the line feed
 module _ {A B : Type 0} where
@@ -30,20 +43,9 @@ module _ {A B : Type 0} where
   abbrev closed : (A → List ℕ) → (B → List ℕ) → A × B → List ℕ
   closed first second x = first x.0 ++ (second x.1 ++ (line_feed ∷ []))
 
--- ---- a number that is a row count
-
-abbrev pub is_count : ℤ → Bool
-is_count v = le_z (pos 1) v && le_z v (pos 127)
-
-pub count_is : (v : ℤ) → is_count v ≡ true → (v ≡ pos (nat_abs v)) × RightCount (nat_abs v)
-count_is (pos n) h =
-    let least = and_left (leb 1 n) (leb n 127) h in
-    let greatest = and_right (leb 1 n) (leb n 127) h in
-    (refl, record { some_row = leb-true 1 n least; not_over = leb-true n 127 greatest })
-count_is (negsuc n) h = false_true h
-
-right_count_is_count : (n : ℕ) → RightCount n → is_count (pos n) ≡ true
-right_count_is_count n c = rw (le-leb 1 n c.some_row, le-leb n 127 c.not_over)
+pub flat_map_last : {A B : Type 0} (f : A → List B) (xs : List A) (x : A) → flat_map f (xs ++ (x ∷ [])) ≡ flat_map f xs ++ f x
+unfolding flat_map
+flat_map_last {B = B} f xs x = flat_map_append f xs (x ∷ []) ∙ ap (λ (ys : List B). flat_map f xs ++ ys) (append-nil (f x))
 
 -- ---- pieces
 
@@ -60,81 +62,126 @@ past : (text : List ℕ) (at : ℕ) (xs : List ℕ) {rest : List ℕ} {next : �
 past text at xs {rest} e h =
     ap (λ (i : ℕ). drop i text) h ∙ sym (drop-drop (length xs) at text) ∙ ap (drop (length xs)) e ∙ drop-append_seam xs rest
 
-module _ {A : Type 0} {Proper : A → Type 0} {spelling : A → List ℕ} {Follows : List ℕ → Type 0}
-    {text : List ℕ} {at : ℕ} {value : A} {next : ℕ} where
-  -- nothing proper stands there
-  nothing_there : ((v : A) (rest : List ℕ) → Proper v → Follows rest → drop at text ≡ spelling v ++ rest → ⊥)
-      → Reads Proper spelling Follows text at false value next
-  nothing_there h = record { sound = λ e. false_true e; complete = λ v rest p f e. absurd (h v rest p f e) }
+after_it : {A : Type 0} {Proper : A → Type 0} {spelling : A → List ℕ} {Follows : List ℕ → Type 0} {text : List ℕ} {at : ℕ} {value : A} {next : ℕ}
+    → There Proper spelling Follows text at value next → (v : A) (rest : List ℕ) → Proper v → Follows rest → drop at text ≡ spelling v ++ rest
+    → drop next text ≡ rest
+after_it {spelling = spelling} {text = text} {at = at} t v rest p f e = past text at (spelling v) e (t.only v rest p f e).1
 
-  module _ {right : Bool} (r : Reads Proper spelling Follows text at right value next) (v : A) (rest : List ℕ) (p : Proper v) (f : Follows rest)
-      (e : drop at text ≡ spelling v ++ rest) where
-    pub none_there : right ≡ false → ⊥
-    none_there h = false_true (sym h ∙ (r.complete v rest p f e).0)
+-- bytes that are given stand there, or do not
+abbrev pub NoBytes : List ℕ → List ℕ → ℕ → Type 0
+NoBytes bytes text at = Missing {A = Unit {0}} Any (λ u. bytes) Any text at
 
-    -- what follows it
-    after_it : drop next text ≡ rest
-    after_it = past text at (spelling v) e (r.complete v rest p f e).2
+abbrev pub Bytes : List ℕ → List ℕ → ℕ → ℕ → Type 0
+Bytes bytes text at next = There {A = Unit {0}} Any (λ u. bytes) Any text at tt next
+
+-- ---- the words of a row
+
+pub word_0 : (k : Kind) → to_z w32 (tag_of the_type k) ≡ pos (kind_number k)
+word_0 Box = refl
+word_0 Wedge = refl
+word_0 Drum = refl
+word_0 Union = refl
+word_0 Inter = refl
+word_0 Diff = refl
+word_0 Triangle = refl
+
+-- word 0, and the others after it
+pub row_put : {n m : ℤ} (table : List ℤ) {words part : List ℤ} {size : ℕ} → n ≡ m → 1 + length words ≤ length table → part ≡ words → size ≡ length words
+    → put_mid 1 size (set table 0 n) part ≡ sets table 0 (m ∷ words)
+row_put {n} {m} table {words} same room is size =
+    part_written (set table 0 n) 1 (simp length-set room) is size ∙ ap (λ (z : ℤ). sets (set table 0 z) 1 words) same
+
+-- ---- a number that is a row count
+
+pub size_refused : {E P : Type 0} (n : ℕ) (r : Result ℕ E) → None ≡ result_ok r → OkIff r P n → P → ⊥
+size_refused n (Ok m) e h p = cc
+size_refused n (Err x) e h p = h p
+
+pub size_read : {E P : Type 0} {n : ℕ} (r : Result ℕ E) {m : ℕ} → Some m ≡ result_ok r → OkIff r P n → P × (m ≡ n)
+size_read (Ok k) {m} e h = let same : m ≡ k = cc in (h.0, same ∙ h.1)
+size_read (Err x) e h = cc
+
+pub is_size : (v : ℤ) → FitsUnsignedBits 64 v → v ≡ pos (nat_abs v)
+is_size (pos n) h = refl
+is_size (negsuc n) h = absurd h
 
 module _ (text : List ℕ) (at : ℕ) where
   -- ---- bytes that are given
 
-  module _ (bytes : List ℕ) where
-    pub no_room : at ≤ length text → length text - at < length bytes → {next : ℕ} → ReadsBytes bytes text at false next
-    no_room l h = nothing_there (λ u rest p f e. omega (arith, ap length e, length-append bytes rest, length-drop at text))
-
-    pub bytes_read : {right : Bool} {next : ℕ} → next ≡ at + length bytes → next ≤ length text
-        → Says right (take (next - at) (drop at text) ≡ bytes) → ReadsBytes bytes text at right next
-    bytes_read {right} {next} is l says = record {
-      sound = λ h.
-          let size : at + (next - at) ≡ next = omega arith in
-          let there = says_holds right (take (next - at) (drop at text) ≡ bytes) says h in
-          let rest = drop-drop (next - at) at text ∙ ap (λ (i : ℕ). drop i text) size in
-          (tt, record { inside = l; split = sym (take-append-drop (next - at) (drop at text)) ∙ (λ i. there i ++ rest i) });
-      complete = λ u rest p f e.
-          let size : next - at ≡ length bytes = omega arith in
-          let there = (λ i. take (size i) (e i)) ∙ take-append_seam bytes rest in
-          (holds_said right (take (next - at) (drop at text) ≡ bytes) says there, refl, is);
-    }
+  pub bytes_read : (bytes : List ℕ) {begins : Bool} {o : Option ℕ} → at ≤ length text → begins ≡ starts_with eqb (take (length text - at) (drop at text)) bytes
+      → o ≡ then_some begins (at + length bytes) → ReadsBytes bytes text at o
+  bytes_read bytes {begins} {o} l says answer =
+      let rest : take (length text - at) (drop at text) ≡ drop at text = take_all (length text - at) (drop at text) (omega (arith, length-drop at text)) in
+      let its = says ∙ ap (λ (bs : List ℕ). starts_with eqb bs bytes) rest in
+      go begins (starts_is Decides-eqb (drop at text) bytes begins its) answer
+    where
+      go : (b : Bool)
+          → (b ≡ true → drop at text ≡ bytes ++ drop (length bytes) (drop at text)) × ((rest : List ℕ) → drop at text ≡ bytes ++ rest → b ≡ true)
+          → o ≡ then_some b (at + length bytes) → ReadsBytes bytes text at o
+      go false begun is = rw is (record { none = λ u rest p f e. false_true (begun.1 rest e) })
+      go true begun is =
+          let split = begun.0 refl in
+          let size = length-append bytes (drop (length bytes) (drop at text)) in
+          rw is (record {
+            proper = tt;
+            stood = record {
+              inside = omega (arith, ap length split, size, length-drop at text);
+              split = split ∙ ap (λ (rest : List ℕ). bytes ++ rest) (drop-drop (length bytes) at text);
+            };
+            only = λ u rest p f e. (refl, refl);
+          })
 
   -- ---- a kind's name
 
-  module _ {k kind : Kind} {right : Bool} {next : ℕ} (t : TriesName text at k right kind next) where
-    pub not_named : right ≡ false → (rest : List ℕ) → drop at text ≡ kind_name k ++ rest → ⊥
-    not_named h rest e = none_there t.reads tt rest tt tt e h
+  pub named : {k : Kind} {next : ℕ} → Bytes (kind_name k) text at next → There Any kind_name Any text at k next
+  named {k} {next} t = record {
+    proper = tt;
+    stood = t.stood;
+    only = λ l rest p f e.
+        let same : k ≡ l = name_once k l (drop next text) rest (sym t.stood.split ∙ e) in
+        let end = (t.only tt (drop next text) tt tt t.stood.split).1 in
+        (same, end ∙ ap (λ (j : Kind). at + length (kind_name j)) same);
+  }
 
-    pub named : right ≡ true → ReadsName text at right kind next
-    named r =
-        let stood = (t.reads.sound r).1 in
-        record {
-          sound = λ h. (tt, subst (λ (l : Kind). Stood text at (kind_name l) next) (sym t.is) stood);
-          complete = λ l rest p f e.
-              let same : k ≡ l = name_once k l (drop next text) rest (sym stood.split ∙ e) in
-              let end = (t.reads.complete tt (drop next text) tt tt stood.split).2 in
-              (r, t.is ∙ same, end ∙ ap (λ (j : Kind). at + length (kind_name j)) same);
-        }
+  -- none of the first kinds is named there
+  abbrev pub Unnamed : ℕ → Type 0
+  Unnamed i = (k : Kind) → kind_number k < i → NoBytes (kind_name k) text at
 
-  -- no kind's name but perhaps that which is tried last
-  pub named_last : {right : Bool} {k kind : Kind} {next : ℕ} → TriesName text at k right kind next
-      → (right ≡ false → (l : Kind) (rest : List ℕ) → drop at text ≡ kind_name l ++ rest → ⊥) → ReadsName text at right kind next
-  named_last {right = true} t none = named t refl
-  named_last {right = false} t none = nothing_there (λ l rest p f e. none refl l rest e)
+  few_kinds : (k : Kind) → kind_number k < 7
+  few_kinds Box = omega arith
+  few_kinds Wedge = omega arith
+  few_kinds Drum = omega arith
+  few_kinds Union = omega arith
+  few_kinds Inter = omega arith
+  few_kinds Diff = omega arith
+  few_kinds Triangle = omega arith
+
+  pub all_unnamed : {i : ℕ} → 7 ≤ i → Unnamed i → Missing Any kind_name Any text at
+  all_unnamed l unnamed = record { none = λ k rest p f e. (unnamed k (omega (arith, few_kinds k))).none tt rest tt tt e }
 
   -- ---- a tab and a number
 
-  module _ {right : Bool} {middle : ℕ} (b : ReadsBytes (tab ∷ []) text at right middle) where
-    pub no_tab : right ≡ false → {value : ℤ} {next : ℕ} → ReadsField text at false value next
-    no_tab h = nothing_there (λ v rest p f e. none_there b tt (number_text v ++ rest) tt tt e h)
+  pub no_tab : NoBytes (tab ∷ []) text at → Missing Word32 field_text Ended text at
+  no_tab m = record { none = λ v rest p f e. m.none tt (number_text v ++ rest) tt tt e }
 
-    pub field_read : right ≡ true → {n : Number} → ReadsNumber text middle n → ReadsField text at n.right n.value n.next
-    field_read r {n} m = record {
-      sound = λ h. let s = m.sound h in (s.2.fits, stood_on (b.sound r).1 (record { inside = s.1; split = s.2.split }));
-      complete = λ v rest p f e.
-          let split = after_it b tt (number_text v ++ rest) tt tt e in
-          let end = (b.complete tt (number_text v ++ rest) tt tt e).2 in
-          let g = m.complete v rest (record { fits = p; split = split; ends = f }) in
-          (g.0, g.1, omega (arith, end, g.2));
+  module _ {middle : ℕ} (t : Bytes (tab ∷ []) text at middle) where
+    pub field_read : {o : Option (Found ℤ)} → ReadsNumber text middle o → ReadsField text at o
+    field_read {o = None} m = record {
+      none = λ v rest p f e.
+          let there = m.complete v rest (record { fits = p; split = after_it t tt (number_text v ++ rest) tt tt e; ends = f }) in
+          cc;
     }
+    field_read {o = Some n} m =
+        let s = m.sound n refl in
+        record {
+          proper = s.2.fits;
+          stood = stood_on t.stood (record { inside = s.1; split = s.2.split });
+          only = λ v rest p f e.
+              let there = m.complete v rest (record { fits = p; split = after_it t tt (number_text v ++ rest) tt tt e; ends = f }) in
+              let same : n ≡ found v (middle + length (number_text v)) = cc in
+              let end = (t.only tt (number_text v ++ rest) tt tt e).1 in
+              (ap (λ (x : Found ℤ). x.value) same, omega (arith, end, ap (λ (x : Found ℤ). x.next) same));
+        }
 
   -- ---- so many of them
 
@@ -143,176 +190,198 @@ module _ (text : List ℕ) (at : ℕ) where
   ended_fields [] rest f = f
   ended_fields (v ∷ vs) rest f = refl
 
-  pub none_wanted : {count : ℕ} → count ≡ 0 → at ≤ length text → Reads (Fields count) (flat_map field_text) Ended text at true [] at
+  -- the first i fields stand there, and the first i places have their numbers
+  pub record FieldsBegun (places : List ℤ) (i next : ℕ) : Type 0 where
+    pub fit : All Word32 (take i places)
+    pub stood : Stood text at (flat_map field_text (take i places)) next
+    pub on : (vs : List ℤ) (rest : List ℕ) → Fields (length places) vs → Ended rest → drop at text ≡ flat_map field_text vs ++ rest
+        → (take i vs ≡ take i places) × (drop next text ≡ flat_map field_text (drop i vs) ++ rest)
+
+  pub none_begun : (places : List ℤ) → at ≤ length text → FieldsBegun places 0 at
   unfolding flat_map
-  none_wanted {count} none l = record {
-    sound = λ h. (record { counted = sym none; fit = tt }, record { inside = l; split = refl });
-    complete = whole;
-  }
-    where
-      whole : (vs : List ℤ) (rest : List ℕ) → Fields count vs → Ended rest → drop at text ≡ flat_map field_text vs ++ rest
-          → (true ≡ true) × ([] ≡ vs) × (at ≡ at + length (flat_map field_text vs))
-      whole [] rest p f e = (refl, refl, sym (add-zero at))
-      whole (v ∷ vs) rest p f e = absurd (omega (arith, p.counted))
+  none_begun places l = record { fit = tt; stood = record { inside = l; split = refl }; on = λ vs rest p f e. (refl, e) }
 
-  module _ {count : ℕ} (some : 1 ≤ count) {right : Bool} {value : ℤ} {middle : ℕ} (first : ReadsField text at right value middle) where
-    -- the first of some fields, before the others
-    one_first : (v : ℤ) (vs : List ℤ) (rest : List ℕ) → drop at text ≡ flat_map field_text (v ∷ vs) ++ rest
-        → drop at text ≡ field_text v ++ (flat_map field_text vs ++ rest)
-    unfolding flat_map
-    one_first v vs rest e = e ∙ append_assoc (field_text v) (flat_map field_text vs) rest
+  module _ {places : List ℤ} {i next : ℕ} (b : FieldsBegun places i next) where
+    module _ (l : i < length places) (vs : List ℤ) (rest : List ℕ) (p : Fields (length places) vs) (f : Ended rest)
+        (e : drop at text ≡ flat_map field_text vs ++ rest) where
+      -- the next of some fields, before the others
+      abbrev its : ℤ
+      its = get_or vs i (pos 0)
 
-    pub no_field : right ≡ false → {next : ℕ} → Reads (Fields count) (flat_map field_text) Ended text at false [] next
-    no_field h = nothing_there none
-      where
-        none : (vs : List ℤ) (rest : List ℕ) → Fields count vs → Ended rest → drop at text ≡ flat_map field_text vs ++ rest → ⊥
-        none [] rest p f e = omega (arith, p.counted)
-        none (v ∷ vs) rest p f e =
-            none_there first v (flat_map field_text vs ++ rest) p.fit.0 (ended_fields vs rest f) (one_first v vs rest e) h
+      fits : Word32 its
+      fits = all_at Word32 (pos 0) vs p.fit i (omega (arith, p.counted))
 
-    pub fields_read : right ≡ true → {others : Bool} {words : List ℤ} {next : ℕ}
-        → Reads (Fields (count - 1)) (flat_map field_text) Ended text middle others words next
-        → Reads (Fields count) (flat_map field_text) Ended text at others (value ∷ words) next
-    unfolding flat_map
-    fields_read r {others} {words} {next} m = record {
-      sound = λ h.
-          let one = first.sound r in
-          let more = m.sound h in
-          (record { counted = omega (arith, more.0.counted); fit = (one.0, more.0.fit) }, stood_on one.1 more.1);
-      complete = whole;
+      abbrev others : List ℕ
+      others = flat_map field_text (drop (suc i) vs) ++ rest
+
+      next_field : drop next text ≡ field_text its ++ others
+      unfolding flat_map
+      next_field =
+          (b.on vs rest p f e).1 ∙ ap (λ (ws : List ℤ). flat_map field_text ws ++ rest) (drop-cons vs i (pos 0) (omega (arith, p.counted)))
+          ∙ append_assoc (field_text its) (flat_map field_text (drop (suc i) vs)) rest
+
+    pub no_field : i < length places → Missing Word32 field_text Ended text next → Missing (Fields (length places)) (flat_map field_text) Ended text at
+    no_field l m = record {
+      none = λ vs rest p f e. m.none (its l vs rest p f e) (others l vs rest p f e) (fits l vs rest p f e) (ended_fields (drop (suc i) vs) rest f)
+          (next_field l vs rest p f e);
     }
-      where
-        whole : (vs : List ℤ) (rest : List ℕ) → Fields count vs → Ended rest → drop at text ≡ flat_map field_text vs ++ rest
-            → (others ≡ true) × (value ∷ words ≡ vs) × (next ≡ at + length (flat_map field_text vs))
-        whole [] rest p f e = absurd (omega (arith, p.counted))
-        whole (v ∷ vs) rest p f e =
-            let split = one_first v vs rest e in
-            let one = first.complete v (flat_map field_text vs ++ rest) p.fit.0 (ended_fields vs rest f) split in
-            let on = after_it first v (flat_map field_text vs ++ rest) p.fit.0 (ended_fields vs rest f) split in
-            let more = m.complete vs rest (record { counted = omega (arith, p.counted); fit = p.fit.1 }) f on in
-            (more.0, (λ i. one.1 i ∷ more.1 i), omega (arith, one.2, more.2, length-append (field_text v) (flat_map field_text vs)))
+
+    pub one_begun : i < length places → {value : ℤ} {end : ℕ} → There Word32 field_text Ended text next value end
+        → FieldsBegun (set places i value) (i + 1) end
+    one_begun l {value} {end} t =
+        let more : take (i + 1) (set places i value) ≡ take i places ++ (value ∷ [])
+        = ap (λ (k : ℕ). take k (set places i value)) (add-one i) ∙ take-suc-set places i value l in
+        record {
+          fit = subst (All Word32) (sym more) (all_append Word32 (take i places) (value ∷ []) b.fit (t.proper, tt));
+          stood =
+              let bytes = flat_map_last field_text (take i places) value in
+              subst (λ (bs : List ℕ). Stood text at bs end) (sym (ap (flat_map field_text) more ∙ bytes)) (stood_on b.stood t.stood);
+          on = λ vs rest p f e.
+              let q : Fields (length places) vs = record { counted = p.counted ∙ length-set places i value; fit = p.fit } in
+              let stands = next_field l vs rest q f e in
+              let same = (t.only (its l vs rest q f e) (others l vs rest q f e) (fits l vs rest q f e) (ended_fields (drop (suc i) vs) rest f) stands).0 in
+              let begun = (b.on vs rest q f e).0 in
+              let first : take (suc i) vs ≡ take i places ++ (value ∷ [])
+              = take-suc vs i (pos 0) (omega (arith, q.counted)) ∙ (λ j. begun j ++ (sym same j ∷ [])) in
+              let left = after_it t (its l vs rest q f e) (others l vs rest q f e) (fits l vs rest q f e) (ended_fields (drop (suc i) vs) rest f) stands in
+              (ap (λ (k : ℕ). take k vs) (add-one i) ∙ first ∙ sym more, left ∙ ap (λ (k : ℕ). flat_map field_text (drop k vs) ++ rest) (sym (add-one i)));
+        }
+
+    pub all_begun : at ≤ length text → length places ≤ i → There (Fields (length places)) (flat_map field_text) Ended text at places next
+    unfolding flat_map
+    all_begun inside l =
+        let all = take_all i places l in
+        let stood : Stood text at (flat_map field_text places) next = subst (λ (ws : List ℤ). Stood text at (flat_map field_text ws) next) all b.stood in
+        record {
+          proper = record { counted = refl; fit = subst (All Word32) all b.fit };
+          stood = stood;
+          only = λ vs rest p f e.
+              let same : places ≡ vs = sym all ∙ sym (b.on vs rest p f e).0 ∙ take_all i vs (omega (arith, p.counted)) in
+              let end : next ≡ at + length (flat_map field_text places) = omega (
+                arith,
+                inside,
+                stood.inside,
+                ap length stood.split,
+                length-append (flat_map field_text places) (drop next text),
+                length-drop at text,
+                length-drop next text,
+              ) in
+              (same, end ∙ ap (λ (ws : List ℤ). at + length (flat_map field_text ws)) same);
+        }
 
   -- ---- a line
 
-  module _ {A B : Type 0} {First : A → Type 0} {begins : A → List ℕ} (Second : A → B → Type 0) (goes_on : B → List ℕ)
-      {begun : Bool} {a : A} {middle : ℕ} (first : Reads First begins Any text at begun a middle) where
-    parted : (x : A × B) (rest : List ℕ) → drop at text ≡ closed begins goes_on x ++ rest
-        → drop at text ≡ begins x.0 ++ (goes_on x.1 ++ (line_feed ∷ rest))
-    parted x rest e =
-        e ∙ append_assoc (begins x.0) (goes_on x.1 ++ (line_feed ∷ [])) rest
-        ∙ ap (λ (bytes : List ℕ). begins x.0 ++ bytes) (append_assoc (goes_on x.1) (line_feed ∷ []) rest)
+  parted : {A B : Type 0} (begins : A → List ℕ) (goes_on : B → List ℕ) (x : A × B) (rest : List ℕ) → drop at text ≡ closed begins goes_on x ++ rest
+      → drop at text ≡ begins x.0 ++ (goes_on x.1 ++ (line_feed ∷ rest))
+  parted begins goes_on x rest e =
+      e ∙ append_assoc (begins x.0) (goes_on x.1 ++ (line_feed ∷ [])) rest
+      ∙ ap (λ (bytes : List ℕ). begins x.0 ++ bytes) (append_assoc (goes_on x.1) (line_feed ∷ []) rest)
 
-    wrong_start : begun ≡ false → {x : A × B} {next : ℕ} → Reads (Both First Second) (closed begins goes_on) Any text at false x next
-    wrong_start h = nothing_there (λ x rest p f e. none_there first x.0 (goes_on x.1 ++ (line_feed ∷ rest)) p.0 tt (parted x rest e) h)
+  module _ {A B : Type 0} {First : A → Type 0} {begins : A → List ℕ} (Second : A → B → Type 0) (goes_on : B → List ℕ) where
+    wrong_start : Missing First begins Any text at → Missing (Both First Second) (closed begins goes_on) Any text at
+    wrong_start m = record { none = λ x rest p f e. m.none x.0 (goes_on x.1 ++ (line_feed ∷ rest)) p.0 tt (parted begins goes_on x rest e) }
 
-    module _ {right : Bool} {b : B} {end : ℕ} (second : Reads (Second a) goes_on Ended text middle right b end) where
-      -- what a line that stands there tells of its two pieces
+    module _ {a : A} {middle : ℕ} (first : There First begins Any text at a middle) where
+      -- what a line that stands there tells of its second piece
       record Told (x : A × B) (rest : List ℕ) : Type 0 where
-        told_first : a ≡ x.0
-        told_right : right ≡ true
-        told_second : b ≡ x.1
-        told_end : end ≡ at + (length (begins x.0) + length (goes_on x.1))
-        told_rest : drop end text ≡ line_feed ∷ rest
+        same : a ≡ x.0
+        start : middle ≡ at + length (begins x.0)
+        proper : Second a x.1
+        on : drop middle text ≡ goes_on x.1 ++ (line_feed ∷ rest)
 
       told : (x : A × B) (rest : List ℕ) → Both First Second x → drop at text ≡ closed begins goes_on x ++ rest → Told x rest
       told x rest p e =
-          let split = parted x rest e in
-          let one = first.complete x.0 (goes_on x.1 ++ (line_feed ∷ rest)) p.0 tt split in
-          let on = after_it first x.0 (goes_on x.1 ++ (line_feed ∷ rest)) p.0 tt split in
-          let proper = subst (λ (v : A). Second v x.1) (sym one.1) p.1 in
-          let two = second.complete x.1 (line_feed ∷ rest) proper refl on in
+          let split = parted begins goes_on x rest e in
+          let one = first.only x.0 (goes_on x.1 ++ (line_feed ∷ rest)) p.0 tt split in
           record {
-            told_first = one.1;
-            told_right = two.0;
-            told_second = two.1;
-            told_end = omega (arith, one.2, two.2);
-            told_rest = after_it second x.1 (line_feed ∷ rest) proper refl on;
+            same = one.0;
+            start = one.1;
+            proper = subst (λ (v : A). Second v x.1) (sym one.0) p.1;
+            on = after_it first x.0 (goes_on x.1 ++ (line_feed ∷ rest)) p.0 tt split;
           }
 
-      wrong_rest : right ≡ false → {x : A × B} {next : ℕ} → Reads (Both First Second) (closed begins goes_on) Any text at false x next
-      wrong_rest h = nothing_there (λ x rest p f e. false_true (sym h ∙ (told x rest p e).told_right))
+      wrong_rest : Missing (Second a) goes_on Ended text middle → Missing (Both First Second) (closed begins goes_on) Any text at
+      wrong_rest m = record { none = λ x rest p f e. let t = told x rest p e in m.none x.1 (line_feed ∷ rest) t.proper refl t.on }
 
-      line_closed : begun ≡ true → right ≡ true → {ends : Bool} {next : ℕ} → ReadsBytes (line_feed ∷ []) text end ends next
-          → Reads (Both First Second) (closed begins goes_on) Any text at ends (a, b) next
-      line_closed g h last = record {
-        sound = λ k.
-            let one = first.sound g in
-            let two = second.sound h in
-            ((one.0, two.0), stood_on one.1 (stood_on two.1 (last.sound k).1));
-        complete = λ x rest p f e.
-            let t = told x rest p e in
-            let three = last.complete tt rest tt tt t.told_rest in
-            let size = length-append (begins x.0) (goes_on x.1 ++ (line_feed ∷ [])) in
-            let last_size = length-append (goes_on x.1) (line_feed ∷ []) in
-            (three.0, (λ i. (t.told_first i, t.told_second i)), omega (arith, three.2, t.told_end, size, last_size));
-      }
+      module _ {b : B} {end : ℕ} (second : There (Second a) goes_on Ended text middle b end) where
+        wrong_end : NoBytes (line_feed ∷ []) text end → Missing (Both First Second) (closed begins goes_on) Any text at
+        wrong_end m = record {
+          none = λ x rest p f e. let t = told x rest p e in m.none tt rest tt tt (after_it second x.1 (line_feed ∷ rest) t.proper refl t.on);
+        }
+
+        line_closed : {next : ℕ} → Bytes (line_feed ∷ []) text end next → There (Both First Second) (closed begins goes_on) Any text at (a, b) next
+        line_closed last = record {
+          proper = (first.proper, second.proper);
+          stood = stood_on first.stood (stood_on second.stood last.stood);
+          only = λ x rest p f e.
+              let t = told x rest p e in
+              let two = second.only x.1 (line_feed ∷ rest) t.proper refl t.on in
+              let three = (last.only tt rest tt tt (after_it second x.1 (line_feed ∷ rest) t.proper refl t.on)).1 in
+              let size = length-append (begins x.0) (goes_on x.1 ++ (line_feed ∷ [])) in
+              let last_size = length-append (goes_on x.1) (line_feed ∷ []) in
+              ((λ i. (t.same i, two.0 i)), omega (arith, t.start, two.1, three, size, last_size));
+        }
 
   -- ---- the line of a row
 
-  as_row : {right : Bool} {kind : Kind} {words : List ℤ} {next : ℕ}
-      → Reads (Both Any (λ k. Fields (named_words k))) (closed kind_name (flat_map field_text)) Any text at right (kind, words) next
-      → Reads RightRow line_of Any text at right (record { kind = kind; words = words }) next
-  as_row r = record {
-    sound = λ h. let s = r.sound h in (record { named = s.0.1.counted; fit = s.0.1.fit }, s.1);
-    complete = λ row rest p f e.
-        let g = r.complete (row.kind, row.words) rest (tt, record { counted = p.named; fit = p.fit }) f e in
-        (g.0, (λ i. record { kind = (g.1 i).0; words = (g.1 i).1 }), g.2);
-  }
+  missing_row : Missing (Both Any (λ k. Fields (named_words k))) (closed kind_name (flat_map field_text)) Any text at → Missing RightRow line_of Any text at
+  missing_row m = record { none = λ row rest p f e. m.none (row.kind, row.words) rest (tt, record { counted = p.named; fit = p.fit }) f e }
 
-  module _ {begun : Bool} {kind : Kind} {middle : ℕ} (name : ReadsName text at begun kind middle) where
-    pub no_name : begun ≡ false → {next : ℕ} → Reads RightRow line_of Any text at false no_row next
-    no_name h = as_row (wrong_start (λ k. Fields (named_words k)) (flat_map field_text) name h)
+  module _ {kind : Kind} {middle : ℕ} (name : There Any kind_name Any text at kind middle) (words : List ℤ) (named : length words ≡ named_words kind) where
+    module _ {end : ℕ} (fields : There (Fields (length words)) (flat_map field_text) Ended text middle words end) where
+      own : There (Fields (named_words kind)) (flat_map field_text) Ended text middle words end
+      own = subst (λ (n : ℕ). There (Fields n) (flat_map field_text) Ended text middle words end) named fields
 
-    module _ {count : ℕ} (named : count ≡ named_words kind) {right : Bool} {words : List ℤ} {end : ℕ}
-        (fields : Reads (Fields count) (flat_map field_text) Ended text middle right words end) where
-      its : Reads (Fields (named_words kind)) (flat_map field_text) Ended text middle right words end
-      its = subst (λ (n : ℕ). Reads (Fields n) (flat_map field_text) Ended text middle right words end) named fields
-
-      pub no_words : right ≡ false → {next : ℕ} → Reads RightRow line_of Any text at false no_row next
-      no_words h = as_row (wrong_rest (λ k. Fields (named_words k)) (flat_map field_text) name its h)
-
-      pub row_read : begun ≡ true → right ≡ true → {ends : Bool} {next : ℕ} → ReadsBytes (line_feed ∷ []) text end ends next
-          → Reads RightRow line_of Any text at ends (record { kind = kind; words = words }) next
-      row_read g h last = as_row (line_closed (λ k. Fields (named_words k)) (flat_map field_text) name its g h last)
+      pub line_read : (before after : List ℤ) (o : Option ℕ) → ReadsBytes (line_feed ∷ []) text end o
+          → after ≡ sets before 0 (pos (kind_number kind) ∷ words) → ReadsLine text at before after o
+      line_read before after None last written = missing_row (wrong_end (λ k. Fields (named_words k)) (flat_map field_text) name own last)
+      line_read before after (Some next) last written =
+          let line = line_closed (λ k. Fields (named_words k)) (flat_map field_text) name own last in
+          record {
+            row = record { kind = kind; words = words };
+            there = record {
+              proper = record { named = named; fit = line.proper.1.fit };
+              stood = line.stood;
+              only = λ row rest p f e.
+                  let g = line.only (row.kind, row.words) rest (tt, record { counted = p.named; fit = p.fit }) f e in
+                  ((λ i. record { kind = (g.0 i).0; words = (g.0 i).1 }), g.1);
+            };
+            written = written;
+          }
 
   -- ---- a tab and a row count
 
-  module _ {right : Bool} {value : ℤ} {next : ℕ} (field : ReadsField text at right value next) where
-    pub count_read : is_count value ≡ true → ReadsCount text at right (nat_abs value) next
-    count_read c =
-        let is = count_is value c in
-        record {
-          sound = λ h. (is.1, subst (λ (v : ℤ). Stood text at (field_text v) next) is.0 (field.sound h).1);
-          complete = λ n rest p f e.
-              let g = field.complete (pos n) rest (record { fits = omega (arith, p.not_over) }) f e in
-              (g.0, ap nat_abs g.1, g.2);
-        }
+  pub no_count_field : Missing Word32 field_text Ended text at → Missing RightCount (λ n. field_text (pos n)) Ended text at
+  no_count_field m = record { none = λ n rest p f e. m.none (pos n) rest (record { fits = omega (arith, p.not_over) }) f e }
 
-    pub no_count : is_count value ≡ false → {rows end : ℕ} → ReadsCount text at false rows end
-    no_count c = nothing_there (λ n rest p f e.
-        let g = field.complete (pos n) rest (record { fits = omega (arith, p.not_over) }) f e in
-        false_true (sym c ∙ ap is_count g.1 ∙ right_count_is_count n p))
+  module _ {value : ℤ} {next : ℕ} (field : There Word32 field_text Ended text at value next) where
+    pub no_count : ((n : ℕ) → RightCount n → value ≡ pos n → ⊥) → Missing RightCount (λ n. field_text (pos n)) Ended text at
+    no_count wrong = record {
+      none = λ n rest p f e. wrong n p (field.only (pos n) rest (record { fits = omega (arith, p.not_over) }) f e).0;
+    }
+
+    pub count_read : {rows : ℕ} → value ≡ pos rows → RightCount rows → There RightCount (λ n. field_text (pos n)) Ended text at rows next
+    count_read {rows} is right = record {
+      proper = right;
+      stood = subst (λ (v : ℤ). Stood text at (field_text v) next) is field.stood;
+      only = λ n rest p f e.
+          let g = field.only (pos n) rest (record { fits = omega (arith, p.not_over) }) f e in
+          (cc (is, g.0), g.1);
+    }
 
   -- ---- the header
 
-  as_header : {right : Bool} {rows next : ℕ}
-      → Reads {A = Unit {0} × ℕ} (Both Any (λ u. RightCount)) (closed (λ u. zone_name) (λ n. field_text (pos n))) Any text at right (tt, rows) next
-      → Reads RightCount header_line Any text at right rows next
-  as_header r = record {
-    sound = λ h. let s = r.sound h in (s.0.1, s.1);
-    complete = λ n rest p f e.
-        let g = r.complete (tt, n) rest (tt, p) f e in
-        (g.0, ap (λ (x : Unit {0} × ℕ). x.1) g.1, g.2);
-  }
+  missing_header : Missing {A = Unit {0} × ℕ} (Both Any (λ u. RightCount)) (closed (λ u. zone_name) (λ n. field_text (pos n))) Any text at
+      → Missing RightCount header_line Any text at
+  missing_header m = record { none = λ n rest p f e. m.none (tt, n) rest (tt, p) f e }
 
-  module _ {begun : Bool} {middle : ℕ} (zone : ReadsBytes zone_name text at begun middle) where
-    pub no_zone : begun ≡ false → {rows next : ℕ} → Reads RightCount header_line Any text at false rows next
-    no_zone h = as_header (wrong_start (λ u. RightCount) (λ n. field_text (pos n)) zone h)
+  pub no_zone : NoBytes zone_name text at → Missing RightCount header_line Any text at
+  no_zone m = missing_header (wrong_start (λ u. RightCount) (λ n. field_text (pos n)) m)
 
-    module _ {right : Bool} {rows end : ℕ} (count : ReadsCount text middle right rows end) where
-      pub wrong_count : right ≡ false → {rows next : ℕ} → Reads RightCount header_line Any text at false rows next
-      wrong_count h = as_header (wrong_rest (λ u. RightCount) (λ n. field_text (pos n)) zone count h)
+  module _ {middle : ℕ} (zone : Bytes zone_name text at middle) where
+    pub wrong_count : Missing RightCount (λ n. field_text (pos n)) Ended text middle → Missing RightCount header_line Any text at
+    wrong_count m = missing_header (wrong_rest (λ u. RightCount) (λ n. field_text (pos n)) zone m)
 
-      pub header_read : begun ≡ true → right ≡ true → {ends : Bool} {next : ℕ} → ReadsBytes (line_feed ∷ []) text end ends next
-          → Reads RightCount header_line Any text at ends rows next
-      header_read g h last = as_header (line_closed (λ u. RightCount) (λ n. field_text (pos n)) zone count g h last)
+    module _ {rows end : ℕ} (count : There RightCount (λ n. field_text (pos n)) Ended text middle rows end) where
+      pub no_end : NoBytes (line_feed ∷ []) text end → Missing RightCount header_line Any text at
+      no_end m = missing_header (wrong_end (λ u. RightCount) (λ n. field_text (pos n)) zone count m)

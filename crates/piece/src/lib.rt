@@ -1,218 +1,119 @@
-// Pieces of zone text, up to a line. Each piece is looked for at a position and says whether it stands there, and where it ends.
+// Pieces of zone text, up to a line. Each piece is looked for at a position and tells, if it stands there, where it ends.
 
 #![tactic(auto)]
 
-ghost use Rattle.std.specs.Prelude.{◌+◌, ◌≤◌, ◌≡◌, length};
-ghost use Rattle.rules.specs.Kinds.{kind_number};
+ghost use Rattle.std.specs.Prelude.{◌≤◌, ◌≡◌, length};
 ghost use Rattle.rules.specs.Text.{kind_name};
-ghost use Rattle.piece.specs.Pieces.{ReadsBytes, TriesName, ReadsName, ReadsField, ReadsFields, ReadsLine};
-ghost use Rattle.piece.specs.Pieces.{ReadsCount, ReadsHeader};
+ghost use Rattle.piece.specs.Pieces.{ReadsBytes, ReadsName, ReadsField, ReadsFields, ReadsLine, ReadsCount, ReadsHeader};
 
-use number::Number;
+use number::Found;
 use rules::Kind;
 
-// Whether a piece stands at a position, and the position after it.
-#[derive(Clone, Copy)]
-pub struct Piece {
-    pub right: bool,
-    pub next: usize,
+// The kinds of rows, in the order of word 0.
+const KINDS: [Kind; 7] = [
+    Kind::Box,
+    Kind::Wedge,
+    Kind::Drum,
+    Kind::Union,
+    Kind::Inter,
+    Kind::Diff,
+    Kind::Triangle,
+];
+
+// The name that zone text has for a kind.
+pub fn kind_name(kind: Kind) -> &'static [u8]
+    ensures { result.now ≡ kind_name kind }
+{
+    match kind {
+        Kind::Box => b"box",
+        Kind::Wedge => b"wedge",
+        Kind::Drum => b"drum",
+        Kind::Union => b"union",
+        Kind::Inter => b"inter",
+        Kind::Diff => b"diff",
+        Kind::Triangle => b"tri",
+    }
 }
 
-// The same of a kind's name, and which.
-#[derive(Clone, Copy)]
-pub struct Name {
-    pub right: bool,
-    pub kind: Kind,
-    pub next: usize,
-}
-
-// The same of a row count, and how many rows.
-#[derive(Clone, Copy)]
-pub struct Count {
-    pub right: bool,
-    pub rows: usize,
-    pub next: usize,
-}
-
-// Bytes that are given.
-fn read_bytes(text: &[u8], at: usize, bytes: &[u8]) -> Piece
+// The position after bytes that are given.
+fn read_bytes(text: &[u8], at: usize, bytes: &[u8]) -> Option<usize>
     requires { at ≤ length text.now }
-    ensures { ReadsBytes bytes.now text.now at result.right result.next }
+    ensures { ReadsBytes bytes.now text.now at result }
 {
-    if text.len() - at < bytes.len() {
-        return Piece {
-            right: false,
-            next: at,
-        };
-    }
-    let next = at + bytes.len();
-    let right = number::same(&text[at..next], bytes);
-    Piece { right, next }
+    text[at..].starts_with(bytes).then_some(at + bytes.len())
 }
 
-// The name of one kind.
-fn try_name(text: &[u8], at: usize, kind: Kind, name: &[u8]) -> Name
-    requires at_in_bounds { at ≤ length text.now }
-    requires name_value { name.now ≡ kind_name kind }
-    ensures { TriesName text.now at kind result.right result.kind result.next }
-{
-    let found = read_bytes(text, at, name);
-    Name {
-        right: found.right,
-        kind,
-        next: found.next,
-    }
-}
-
-// The name of some kind. No name begins another, so at most one stands there.
-fn read_name(text: &[u8], at: usize) -> Name
+// The kind that is named. No name begins another, so at most one stands there.
+fn read_name(text: &[u8], at: usize) -> Option<Found<Kind>>
     requires { at ≤ length text.now }
-    ensures { ReadsName text.now at result.right result.kind result.next }
+    ensures { ReadsName text.now at result }
 {
-    let name = try_name(text, at, Kind::Box, b"box");
-    if name.right {
-        return name;
+    for kind in KINDS {
+        if let Some(next) = read_bytes(text, at, kind_name(kind)) {
+            return Some(Found { value: kind, next });
+        }
     }
-    let name = try_name(text, at, Kind::Wedge, b"wedge");
-    if name.right {
-        return name;
-    }
-    let name = try_name(text, at, Kind::Drum, b"drum");
-    if name.right {
-        return name;
-    }
-    let name = try_name(text, at, Kind::Union, b"union");
-    if name.right {
-        return name;
-    }
-    let name = try_name(text, at, Kind::Inter, b"inter");
-    if name.right {
-        return name;
-    }
-    let name = try_name(text, at, Kind::Diff, b"diff");
-    if name.right {
-        return name;
-    }
-    try_name(text, at, Kind::Triangle, b"tri")
+    None
 }
 
 // A tab and the number after it.
-fn read_field(text: &[u8], at: usize) -> Number
+fn read_field(text: &[u8], at: usize) -> Option<Found<i32>>
     requires { at ≤ length text.now }
-    ensures { ReadsField text.now at result.right result.value result.next }
+    ensures { ReadsField text.now at result }
 {
-    let tab = read_bytes(text, at, b"\t");
-    if tab.right {
-        return number::read_number(text, tab.next);
-    }
-    Number {
-        right: false,
-        value: 0,
-        next: at,
-    }
+    let tab = read_bytes(text, at, b"\t")?;
+    number::read_number(text, tab)
 }
 
-// So many fields, whose numbers go into a table from `place` on; one fewer at each call.
-fn read_fields(text: &[u8], at: usize, table: &mut [i32], place: usize, count: usize) -> Piece
-    requires at_in_bounds { at ≤ length text.now }
-    requires count_in_bounds { place + count ≤ length table.old }
-    ensures { ReadsFields text.now at count table.old place table.new result.right result.next }
-{
-    if count == 0 {
-        return Piece {
-            right: true,
-            next: at,
-        };
-    }
-    let field = read_field(text, at);
-    if field.right {
-        let value = field.value;
-        table[place] = value;
-        return read_fields(text, field.next, table, place + 1, count - 1);
-    }
-    Piece {
-        right: false,
-        next: at,
-    }
-}
-
-// Word 0 of a row of that kind.
-fn kind_number(kind: Kind) -> u8
-    ensures { result ≡ kind_number kind }
-{
-    match kind {
-        Kind::Box => 0,
-        Kind::Wedge => 1,
-        Kind::Drum => 2,
-        Kind::Union => 3,
-        Kind::Inter => 4,
-        Kind::Diff => 5,
-        Kind::Triangle => 6,
-    }
-}
-
-// The line of a row, whose words go into a table from `place` on. Spare words stay as they are.
-pub fn read_line(text: &[u8], at: usize, table: &mut [i32], place: usize) -> Piece
-    requires at_in_bounds { at ≤ length text.now }
-    requires place_in_bounds { place + 12 ≤ length table.old }
-    ensures { ReadsLine text.now at table.old place table.new result.right result.next }
-{
-    let name = read_name(text, at);
-    if name.right {
-        let kind = name.kind;
-        table[place] = kind_number(kind) as i32;
-        let named = table::named_words(kind);
-        let fields = read_fields(text, name.next, table, place + 1, named);
-        if fields.right {
-            return read_bytes(text, fields.next, b"\n");
-        }
-    }
-    Piece {
-        right: false,
-        next: at,
-    }
-}
-
-// A tab and a row count, 1 to 127.
-fn read_count(text: &[u8], at: usize) -> Count
+// As many fields as there are places, whose numbers go into these; the position after them.
+fn read_fields(text: &[u8], at: usize, places: &mut [i32]) -> Option<usize>
     requires { at ≤ length text.now }
-    ensures { ReadsCount text.now at result.right result.rows result.next }
+    ensures { ReadsFields text.now at places.new result }
 {
-    let field = read_field(text, at);
-    let value = field.value;
-    if (1 <= value) & (value <= 127) {
-        return Count {
-            right: field.right,
-            rows: value as usize,
-            next: field.next,
-        };
+    let mut next = at;
+    for place in places.iter_mut() {
+        let field = read_field(text, next)?;
+        *place = field.value;
+        next = field.next;
     }
-    Count {
-        right: false,
-        rows: 0,
-        next: at,
-    }
+    Some(next)
 }
 
-// The first line.
-pub fn read_header(text: &[u8]) -> Count
-    ensures { ReadsHeader text.now result.right result.rows result.next }
+// The position after the line of a row, whose words go to the start of a table. Spare words stay as they are.
+pub fn read_line(text: &[u8], at: usize, table: &mut [i32]) -> Option<usize>
+    requires at_in_bounds { at ≤ length text.now }
+    requires row_in_bounds { 12 ≤ length table.old }
+    ensures { ReadsLine text.now at table.old table.new result }
 {
-    let zone = read_bytes(text, 0, b"zone");
-    if zone.right {
-        let count = read_count(text, zone.next);
-        if count.right {
-            let end = read_bytes(text, count.next, b"\n");
-            return Count {
-                right: end.right,
-                rows: count.rows,
-                next: end.next,
-            };
-        }
+    let name = read_name(text, at)?;
+    let named = table::named_words(name.value);
+    table[0] = name.value as i32;
+    let fields = read_fields(text, name.next, &mut table[1..1 + named])?;
+    read_bytes(text, fields, b"\n")
+}
+
+// A tab and a row count.
+fn read_count(text: &[u8], at: usize) -> Option<Found<usize>>
+    requires { at ≤ length text.now }
+    ensures { ReadsCount text.now at result }
+{
+    let field = read_field(text, at)?;
+    let rows = usize::try_from(field.value).ok()?;
+    if rows == 0 || rules::MOST_ROWS < rows {
+        return None;
     }
-    Count {
-        right: false,
-        rows: 0,
-        next: 0,
-    }
+    Some(Found {
+        value: rows,
+        next: field.next,
+    })
+}
+
+// The number of rows that the first line tells.
+pub fn read_header(text: &[u8]) -> Option<Found<usize>>
+    ensures { ReadsHeader text.now result }
+{
+    let zone = read_bytes(text, 0, b"zone")?;
+    let count = read_count(text, zone)?;
+    let next = read_bytes(text, count.next, b"\n")?;
+    Some(Found { next, ..count })
 }

@@ -10,10 +10,9 @@ use lib.ListN.{length, get_or, drop, length-append, length-map, length-drop}
 use lib.Seq.{get_or-append-add}
 use Rattle.std.specs.Prelude.{if◌then◌else◌}
 use Rattle.rules.specs.Text.{line_feed, header_line, line_of}
-use Rattle.rules.specs.TextForm.{prepended, lines_of, RightHeader, line_after, RightRows, FirstFault, no_header, no_such_row, no_end}
+use Rattle.rules.specs.TextForm.{prepended, lines_of, RightRow, RightHeader, line_after, RightRows, FirstFault, no_header, no_such_row, no_end}
 use Rattle.rules.proofs.Lines.{begun_lines, begun_rows}
-use Rattle.piece.specs.Pieces.{RightCount, ReadsHeader, ReadsLine}
-use Rattle.piece.proofs.ReadPieces.{none_there}
+use Rattle.piece.specs.Pieces.{Missing, Any, RightCount}
 use Rattle.reading.specs.Reading.{Begun}
 
 -- ---- the first of some lines
@@ -43,12 +42,12 @@ some_line (b ∷ bs) h = go (eqb b line_feed) (lines_of bs)
 
 -- ---- the first line is faulty
 
-pub header_fault : {text : List ℕ} {right : Bool} {rows next : ℕ} → ReadsHeader text right rows next → right ≡ false → FirstFault (lines_of text) 1
-header_fault {text} r h =
+pub header_fault : {text : List ℕ} → Missing RightCount header_line Any text 0 → FirstFault (lines_of text) 1
+header_fault {text} m =
     let first = first_line text in
     no_header refl (λ rows named.
     let count : RightCount rows = record { some_row = named.some_row; not_over = named.not_over } in
-    none_there r rows first.0 count tt (first.1 ∙ ap (λ (bytes : List ℕ). bytes ++ first.0) named.is) h)
+    m.none rows first.0 count tt (first.1 ∙ ap (λ (bytes : List ℕ). bytes ++ first.0) named.is))
 
 -- ---- a header, and some rows after it
 
@@ -74,12 +73,11 @@ module _ {text : List ℕ} {n at done : ℕ} {words : List ℤ} (count : RightCo
       ∙ get_or-append-add (map line_of b.rows) more 0 []
 
   -- a row is missing there
-  pub row_fault : done < n → {before after : List ℤ} {place : ℕ} {right : Bool} {next : ℕ} → ReadsLine text at before place after right next
-      → right ≡ false → FirstFault (lines_of text) (done + 2)
-  row_fault l r h = no_such_row n done refl header_is rows_so_far l (λ here.
+  pub row_fault : done < n → Missing RightRow line_of Any text at → FirstFault (lines_of text) (done + 2)
+  row_fault l m = no_such_row n done refl header_is rows_so_far l (λ here.
       let first = first_line (drop at text) in
       let stands = first.1 ∙ ap (λ (bytes : List ℕ). bytes ++ first.0) (sym line_here ∙ here.is) in
-      none_there r.reads here.row first.0 here.right tt stands h)
+      m.none here.row first.0 here.right tt stands)
 
   -- something stands after the last row
   pub rest_fault : done ≡ n → at < length text → FirstFault (lines_of text) (n + 2)

@@ -7,6 +7,8 @@ use mathlib.Core.Path.{◌≡◌, refl, subst}
 use borrow.Author.Tests.{le-leb, lt-leb}
 use lib.IntN.{ℤ}
 use lib.ListN.{length, take}
+use Rattle.std.specs.Option.{ok_or}
+use Rattle.std.specs.Prelude.{Option, None, Some, Ok, Err, MatchOption}
 use Rattle.ground.specs.Lists.{first_of}
 use Rattle.rules.specs.declared.Refusal.{Refusal}
 use Rattle.rules.specs.declared.Written.{Written}
@@ -18,6 +20,16 @@ use Rattle.rules.specs.TextCalls.{TextRead}
 use Rattle.rules.specs.TextForm.{most_bytes, lines_of, FirstFault, too_long, faulty, spelt}
 use Rattle.rules.specs.Verdict.{table_refusal}
 use Rattle.reading.specs.Reading.{SpeltOut, Given}
+
+-- ---- an answer that an error takes the place of, where there is none
+
+pub left_out : {A E P : Type 0} (Q : A → Type 0) {d : E} (o : Option A) {e : E} → Err e ≡ ok_or o d → MatchOption o P Q → P × (e ≡ d)
+left_out Q None h p = (p, cc)
+left_out Q (Some x) h q = cc
+
+pub told_on : {A E : Type 0} (P : Type 0) (Q : A → Type 0) (d : E) (o : Option A) {x : A} → Ok x ≡ ok_or o d → MatchOption o P Q → Q x
+told_on P Q d None h p = cc
+told_on P Q d (Some y) {x} h q = let same : y ≡ x = cc in subst Q same q
 
 -- ---- the words that were read
 

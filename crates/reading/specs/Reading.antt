@@ -1,5 +1,5 @@
 -- A text that was read up to a position, or to its end; and the table that it gives.
-use Rattle.std.specs.Prelude.{ℕ, ◌-◌, ◌*◌, ◌≡◌, ℤ, pos, length, take, replicate}
+use Rattle.std.specs.Prelude.{ℕ, ◌-◌, ◌*◌, ◌≡◌, ℤ, pos, length, take, replicate, Result, MatchResult}
 use mathlib.Core.List.{List, [], ◌∷◌, ◌++◌, flat_map}
 use Rattle.std.proofs.Math.Option.{Option}
 use Rattle.ground.specs.Lists.{All, first_of}
@@ -13,8 +13,7 @@ use Rattle.rules.specs.Refusals.{room_refusal}
 use Rattle.rules.specs.Told.{wrote, tell, told_written}
 use Rattle.rules.specs.Outcome.{leave}
 use Rattle.piece.specs.Pieces.{Stood, RightCount}
-use Rattle.reading.specs.declared.Form.{Form}
-use Rattle.reading.specs.declared.Form.TheVariants.{Faulty, Spelt}
+use Rattle.reading.specs.declared.FaultyLine.{FaultyLine}
 
 -- a header for n rows and some of these rows stand up to a position; the words are those of the rows, and then zeros
 pub record Begun (text : List ℕ) (n at done : ℕ) (words : List ℤ) : Type 0 where
@@ -33,9 +32,9 @@ pub record SpeltOut (text : List ℕ) (words : List ℤ) (n : ℕ) : Type 0 wher
   pub is : text ≡ text_of rows
   pub table : take (n * row_words) words ≡ table_of rows
 
-abbrev pub FormRead : List ℕ → List ℤ → Form → Type 0
-FormRead text words (Faulty line) = FirstFault (lines_of text) line
-FormRead text words (Spelt n) = SpeltOut text words n
+-- or it breaks its form, and that is its first faulty line
+abbrev pub FormRead : List ℕ → List ℤ → Result ℕ FaultyLine → Type 0
+FormRead text words r = MatchResult r (SpeltOut text words) (λ fault. FirstFault (lines_of text) fault.0)
 
 -- ---- words that were read go into a lent table: its refusals, then 8
 

@@ -2,67 +2,43 @@
 
 #![tactic(auto)]
 
-ghost use Rattle.std.specs.Prelude.{◌≤◌, ◌≡◌, pos, length, replicate};
+ghost use Rattle.std.specs.Prelude.{◌≡◌, pos, replicate};
 ghost use Rattle.std.proofs.Math.Option.{none};
 ghost use Rattle.rules.specs.Verdict.{table_refusal};
-ghost use Rattle.rules.specs.Outcome.{over};
 ghost use Rattle.rules.specs.TextCalls.{TextRead};
 ghost use Rattle.piece.specs.Pieces.{RightCount};
 ghost use Rattle.reading.specs.Reading.{Begun, FormRead, Given};
 
 use rules::{Checked, Refusal, Written};
 
-// A text that breaks its form, from which line on; or that of so many rows.
-#[derive(Clone, Copy)]
-pub enum Form {
-    Faulty(usize),
-    Spelt(usize),
-}
+// The first line at which a text breaks its form.
+#[derive(Clone, Copy, Debug, PartialEq, Eq)]
+pub struct FaultyLine(pub usize);
 
-// The rows after the header, into a table of zeros: the first faulty line, or that nothing follows the last row.
-fn read_rows(text: &[u8], start: usize, table: &mut [i32], rows: usize) -> Form
+// The rows after the header, into a table of zeros: so many, if nothing follows the last one.
+fn read_rows(text: &[u8], start: usize, table: &mut [i32], rows: usize) -> Result<usize, FaultyLine>
     requires right_count { RightCount rows }
     requires begun { Begun text.now rows start 0 table.old }
     ensures { FormRead text.now table.new result }
 {
     let mut at = start;
-    let mut row: usize = 0;
-    while row < rows {
-        let line = piece::read_line(text, at, table, row * rules::ROW_WORDS);
-        if !line.right {
-            return Form::Faulty(row + 2);
-        }
-        at = line.next;
-        row += 1;
+    for row in 0..rows {
+        let line = piece::read_line(text, at, &mut table[row * rules::ROW_WORDS..]);
+        at = line.ok_or(FaultyLine(row + 2))?;
     }
     if at < text.len() {
-        return Form::Faulty(rows + 2);
+        return Err(FaultyLine(rows + 2));
     }
-    Form::Spelt(rows)
+    Ok(rows)
 }
 
-// The whole text, into a table of zeros.
-fn read_form(text: &[u8], table: &mut [i32]) -> Form
+// The whole text, into a table of zeros: how many rows it spells.
+fn read_form(text: &[u8], table: &mut [i32]) -> Result<usize, FaultyLine>
     requires { table.old ≡ replicate 1524 (pos 0) }
     ensures { FormRead text.now table.new result }
 {
-    let header = piece::read_header(text);
-    if header.right {
-        return read_rows(text, header.next, table, header.rows);
-    }
-    Form::Faulty(1)
-}
-
-// Puts words at the start of a table that has room for them.
-fn copy(words: &[i32], table: &mut [i32])
-    requires { length words.now ≤ length table.old }
-    ensures { table.new ≡ over words.now table.old }
-{
-    let mut i = 0;
-    while i < words.len() {
-        table[i] = words[i];
-        i += 1;
-    }
+    let header = piece::read_header(text).ok_or(FaultyLine(1))?;
+    read_rows(text, header.next, table, header.value)
 }
 
 // A table without a fault: the room, then the words.
@@ -77,7 +53,7 @@ fn give_sound(words: &[i32], table: &mut [i32]) -> Written
             value: needed as u64,
         });
     }
-    copy(words, table);
+    table[..needed].copy_from_slice(words);
     Written::Wrote(needed)
 }
 
@@ -103,15 +79,11 @@ pub fn read_text(text: &[u8], table: &mut [i32]) -> Written
         });
     }
     let mut words: [i32; 1524] = [0; 1524];
-    let form = read_form(text, &mut words);
-    match form {
-        Form::Faulty(line) => Written::Refused(Refusal {
+    match read_form(text, &mut words) {
+        Err(fault) => Written::Refused(Refusal {
             number: 13,
-            value: line as u64,
+            value: fault.0 as u64,
         }),
-        Form::Spelt(rows) => {
-            let size = rows * rules::ROW_WORDS;
-            give(&words[..size], table)
-        }
+        Ok(rows) => give(&words[..rows * rules::ROW_WORDS], table),
     }
 }

@@ -1,50 +1,36 @@
-use Prim.Native.Nat.{◌+◌}
-use native.Mathlib.Omega.{arith}
-use Rattle.ground.proofs.Branches.{false_true}
-use Rattle.number.proofs.Reading.{stands_before_end, found_below, found_above, run_stops, confirmed_reads}
+use mathlib.Core.Path.{ap, subst, ◌∙◌}
+use lib.IntN.{ℤ}
+use mir.Syntax.{w32}
+use mir.Val.{to_z, of_z}
+use mir.ValLaws.{to_z-of_z}
+use Rattle.number.specs.Reading.{Confirmed}
+use Rattle.number.proofs.Reading.{none_after_end, read_stops, read_guess, none_fits, confirmed_reads}
 use Rattle.number.proofs.read_number.Goals as goal
 
-pub returns-then-text-at : goal.returns-then-text-at
-returns-then-text-at c =
-    let s = c.args in
-    let none = stands_before_end s.text.now s.at c.if-text-at.true in
-    record { sound = λ h. false_true h; complete = λ v rest stands. absurd (none v rest stands) }
+pub returns-in_err-minus : goal.returns-in_err-minus
+returns-in_err-minus c = rw c.from_residual.ensures (none_after_end c.args.text.now c.args.at c.in_err-minus.ensures.lookup.3)
+
+pub returns-in_err-value : goal.returns-in_err-value
+returns-in_err-value c =
+    let byte = c.in_ok-minus.ensures.lookup.3 in
+    let digits = c.read_digits-digits.ensures in
+    let stops = read_stops c.args.text.now c.args.at byte.0 (byte.1 0) c.from.ensures digits in
+    let guess = read_guess c.args.text.now c.args.at byte.0 (byte.1 0) c.from.ensures digits in
+    rw c.from_residual-in_err-value.ensures (none_fits c.args.text.now c.args.at stops guess (λ w. c.in_err-value.ensures (record { sfits = w.fits })))
 
 pub confirm-requires : goal.confirm-requires
 confirm-requires c =
-    let at_read_digits = c.before.before in
-    let else1 = at_read_digits.before.before.before in
-    let s = else1.before.before in
-    let s = s.args in
-    let stops = run_stops s.text.now s.at (s.at + 1) (omega arith) (omega arith) at_read_digits.read_digits-below.ensures in
-    (stops.after, stops.inside)
-
-pub returns-then-text-at-eq45 : goal.returns-then-text-at-eq45
-returns-then-text-at-eq45 c =
-    let then2 = c.before.before.before.before in
-    let s = then2.before.before.before.before in
-    let s = s.args in
-    let run = c.read_digits-below.ensures in
-    let guess = c.negative in
-    let stops = run_stops s.text.now s.at (s.at + 1) (omega arith) (omega arith) run in
-    let found = found_below s.text.now s.at then2.if-text-at-eq45.true run guess.ensures in
-    confirmed_reads s.text.now s.at stops guess.type_inv found c.confirm.ensures
-
-pub confirm-requires-2 : goal.confirm-requires-2
-confirm-requires-2 c =
-    let else1 = c.before.before.before.before.before in
-    let s = else1.before.before in
-    let s = s.args in
-    let stops = run_stops s.text.now s.at s.at (omega arith) (omega arith) c.read_digits-run.ensures in
+    let byte = c.in_ok-minus.ensures.lookup.3 in
+    let stops = read_stops c.args.text.now c.args.at byte.0 (byte.1 0) c.from.ensures c.read_digits-digits.ensures in
     (stops.after, stops.inside)
 
 pub returns : goal.returns
 returns c =
-    let else2 = c.before.before.before.before in
-    let s = else2.before.before.before.before in
-    let s = s.args in
-    let run = c.read_digits-run.ensures in
-    let guess = c.positive in
-    let stops = run_stops s.text.now s.at s.at (omega arith) (omega arith) run in
-    let found = found_above s.text.now s.at else2.if-text-at-eq45.false run guess.ensures in
-    confirmed_reads s.text.now s.at stops guess.type_inv found c.confirm-2.ensures
+    let byte = c.in_ok-minus.ensures.lookup.3 in
+    let digits = c.read_digits-digits.ensures in
+    let stops = read_stops c.args.text.now c.args.at byte.0 (byte.1 0) c.from.ensures digits in
+    let guess = read_guess c.args.text.now c.args.at byte.0 (byte.1 0) c.from.ensures digits in
+    let value = c.in_ok-value.ensures in
+    let handed = ap (λ (z : ℤ). to_z w32 (of_z w32 z)) value.1 ∙ to_z-of_z w32 _ value.0 in
+    confirmed_reads c.args.text.now c.args.at stops guess (record { fits = value.0.sfits })
+    (subst (λ (v : ℤ). Confirmed c.args.text.now c.args.at c.read_digits-digits.result.next v c.confirm.result) handed c.confirm.ensures)

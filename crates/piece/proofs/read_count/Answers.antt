@@ -1,40 +1,34 @@
 use native.Mathlib.Omega.{arith}
-use mathlib.Core.Path.{◌≡◌, sym, ap, subst, ◌∙◌}
-use borrow.Author.Rules.{rules}
-use lib.Dec.{T}
-use lib.IntN.{ℤ, nat_abs}
-use lib.Signed.{non_neg}
+use mathlib.Core.Path.{◌≡◌, sym, ap, ◌∙◌}
+use lib.IntN.{pos, nat_abs}
 use mir.Syntax.{w32}
-use mir.Val.{to_z, of_z}
-use Rattle.piece.specs.Pieces.{ReadsCount}
-use Rattle.piece.proofs.ReadPieces.{is_count, count_is, count_read, no_count}
-use Rattle.piece.proofs.read_count.Lts as lts
-use Rattle.piece.proofs.read_count.Tie as tie
-use Rattle.piece.proofs.read_count.Reads as reads
+use mir.ValLaws.{to_z-of_z}
+use Rattle.piece.proofs.ReadPieces.{no_count_field, no_count, count_read, size_refused, size_read, is_size}
 use Rattle.piece.proofs.read_count.Goals as goal
 
-abbrev After-read_field : Type 0
-After-read_field = lts.After-read_field tie.the-claims reads.Pre reads.Post
+pub returns-in_err-field : goal.returns-in_err-field
+returns-in_err-field c = rw c.from_residual.ensures (no_count_field c.args.text.now c.args.at c.in_err-field.ensures)
 
--- the number, as it was read and as the local holds it
-held : (f : After-read_field) → to_z w32 (of_z w32 f.read_field-field.result.value) ≡ f.read_field-field.result.value
-held f = search rules
+pub returns-in_err-rows : goal.returns-in_err-rows
+returns-in_err-rows c =
+    let field = c.in_ok-field.ensures in
+    let held = to_z-of_z w32 c.in_ok-field.field.value (record { sfits = field.proper.fits }) in
+    let negative = size_refused _ c.try_from.result c.in_err-rows.ensures.value c.try_from.ensures in
+    rw c.from_residual-in_err-rows.ensures (no_count c.args.text.now c.args.at field (λ n right is. negative (rw (held ∙ is) (omega (arith, right.not_over)))))
 
-pub overflow_cast-result : goal.overflow_cast-result
-overflow_cast-result c =
-    let is = count_is (to_z w32 (of_z w32 c.read_field-field.result.value)) c.if-value.true in
-    (subst (λ (v : ℤ). T (non_neg v)) (sym is.0) tt, record { fits = omega (arith, is.1.not_over) })
-
-pub returns-then-value : goal.returns-then-value
-returns-then-value c =
-    let s = c.before.before.before.before.before in
-    let field = c.read_field-field in
-    let is = held c.before.before.before in
-    subst (λ (v : ℤ). ReadsCount s.args.text.now s.args.at field.result.right (nat_abs v) field.result.next) (sym is)
-    (count_read s.args.text.now s.args.at field.ensures (ap is_count (sym is) ∙ c.if-value.true))
+pub returns-then-rows-eq0 : goal.returns-then-rows-eq0
+returns-then-rows-eq0 c =
+    let field = c.in_ok-field.ensures in
+    let held = to_z-of_z w32 c.in_ok-field.field.value (record { sfits = field.proper.fits }) in
+    let size = (size_read c.try_from.result c.in_ok-rows.ensures.value c.try_from.ensures).1 in
+    no_count c.args.text.now c.args.at field (λ n right is.
+    let rows : c.in_ok-rows.rows ≡ n = size ∙ ap nat_abs (held ∙ is) in
+    omega (arith, right.some_row, right.not_over, rows, c.then-rows-eq0.either))
 
 pub returns : goal.returns
 returns c =
-    let s = c.before.before.before.before.before in
-    let field = c.read_field-field in
-    no_count s.args.text.now s.args.at field.ensures (ap is_count (sym (held c.before.before.before)) ∙ c.if-value.false)
+    let field = c.in_ok-field.ensures in
+    let held = to_z-of_z w32 c.in_ok-field.field.value (record { sfits = field.proper.fits }) in
+    let size = size_read c.try_from.result c.in_ok-rows.ensures.value c.try_from.ensures in
+    let is = sym held ∙ is_size _ size.0 ∙ ap pos (sym size.1) in
+    count_read c.args.text.now c.args.at field is (record { some_row = omega arith; not_over = omega arith })

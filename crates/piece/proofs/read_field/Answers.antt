@@ -1,13 +1,8 @@
 use Rattle.piece.proofs.ReadPieces.{no_tab, field_read}
 use Rattle.piece.proofs.read_field.Goals as goal
 
-pub returns-then-tab : goal.returns-then-tab
-returns-then-tab c =
-    let at_read_bytes = c.before.before.before in
-    let s = at_read_bytes.before.before.before in
-    field_read s.args.text.now s.args.at at_read_bytes.read_bytes-tab.ensures c.if-tab.true c.read_number.ensures
+pub returns-in_err-tab : goal.returns-in_err-tab
+returns-in_err-tab c = rw c.from_residual.ensures (no_tab c.args.text.now c.args.at c.in_err-tab.ensures)
 
 pub returns : goal.returns
-returns c =
-    let s = c.before.before.before.before.before in
-    no_tab s.args.text.now s.args.at c.read_bytes-tab.ensures c.if-tab.false
+returns c = field_read c.args.text.now c.args.at c.in_ok-tab.ensures c.read_number.ensures

@@ -1,30 +1,9 @@
-use Rattle.piece.proofs.ReadPieces.{no_zone, wrong_count, header_read}
+use Rattle.piece.proofs.ReadPieces.{no_zone, no_end}
 use Rattle.piece.proofs.read_header.Goals as goal
 
-pub read_count-count-requires : goal.read_count-count-requires
-read_count-count-requires c = (c.read_bytes-zone.ensures.sound c.if-zone.true).1.inside
+pub returns-in_err-zone : goal.returns-in_err-zone
+returns-in_err-zone c = rw c.from_residual.ensures (no_zone c.args.text.now 0 c.in_err-zone.ensures)
 
-pub read_bytes-end-requires : goal.read_bytes-end-requires
-read_bytes-end-requires c = (c.read_count-count.ensures.sound c.if-count.true).1.inside
-
-pub returns-then-count : goal.returns-then-count
-returns-then-count c =
-    let at_read_count = c.before.before.before.before.before in
-    let then1 = at_read_count.before in
-    let at_read_bytes = then1.before in
-    let s = at_read_bytes.before.before.before in
-    let zone = at_read_bytes.read_bytes-zone.ensures in
-    let count = at_read_count.read_count-count.ensures in
-    let begun = then1.if-zone.true in
-    header_read s.args.text.now 0 zone count begun c.if-count.true c.read_bytes-end.ensures
-
-pub returns-else-count : goal.returns-else-count
-returns-else-count c =
-    let at_read_bytes = c.before.before.before.before in
-    let s = at_read_bytes.before.before.before in
-    wrong_count s.args.text.now 0 at_read_bytes.read_bytes-zone.ensures c.read_count-count.ensures c.if-count.false
-
-pub returns-else-zone : goal.returns-else-zone
-returns-else-zone c =
-    let s = c.before.before.before.before.before in
-    no_zone s.args.text.now 0 c.read_bytes-zone.ensures c.if-zone.false
+pub returns-in_err-next : goal.returns-in_err-next
+returns-in_err-next c =
+    rw c.from_residual-in_err-next.ensures (no_end c.args.text.now 0 c.in_ok-zone.ensures c.in_ok-count.ensures c.in_err-next.ensures)

@@ -1,47 +1,23 @@
 use native.Mathlib.Omega.{arith}
-use borrow.Author.Tests.{not-true, not-false}
+use Rattle.std.proofs.lemmas.Result.{err_from_is_err_and}
 use Rattle.reading.proofs.LineFaults.{row_fault, rest_fault}
-use Rattle.reading.proofs.ReadTables.{begun_size, row_begun, spelt_out}
+use Rattle.reading.proofs.ReadCalls.{left_out, told_on}
+use Rattle.reading.proofs.ReadTables.{row_begun, spelt_out}
 use Rattle.reading.proofs.read_rows.Goals as goal
 
-pub loop-row-init : goal.loop-row-init
-loop-row-init c = (omega arith, c.requires.begun)
-
-pub overflow_mul-row : goal.overflow_mul-row
-overflow_mul-row c = record { fits = omega (arith, c.requires.right_count.not_over) }
-
-pub read_line-line-requires : goal.read_line-line-requires
-read_line-line-requires c =
-    let l = c.loop-row in record { at_in_bounds = l.invariant.1.stood.inside; place_in_bounds = omega (arith, begun_size l.invariant.1 (omega arith)) }
-
-pub returns-then-not-line : goal.returns-then-not-line
-returns-then-not-line c =
-    let at_read_line = c.before.before.before.before in
-    let at_loop = at_read_line.before.before.before in
-    let s = at_loop.before.before in
-    let l = at_loop.loop-row in
-    row_fault s.requires.right_count l.invariant.1 (omega arith) at_read_line.read_line-line.ensures (not-true _ c.if-not-line.true)
-
-pub loop-row-smaller : goal.loop-row-smaller
-loop-row-smaller c = omega arith
+pub returns-in_err-at : goal.returns-in_err-at
+returns-in_err-at c =
+    let out = left_out _ c.read_line-line.result c.in_err-at.ensures.value c.read_line-line.ensures in
+    let exit = err_from_is_err_and c.from_residual.result c.from_residual.ensures.1 in
+    rw (exit.1, exit.2, out.1) (row_fault c.requires.right_count c.loop-row.invariant (omega arith) out.0)
 
 pub loop-row-preserved : goal.loop-row-preserved
 loop-row-preserved c =
-    let at_read_line = c.before.before.before.before in
-    let at_loop = at_read_line.before.before.before in
-    let s = at_loop.before.before in
-    let l = at_loop.loop-row in
-    (omega arith, row_begun s.requires.right_count l.invariant.1 (omega arith) at_read_line.read_line-line.ensures (not-false _ c.if-not-line.false))
-
-pub overflow_add-result-then-at-text : goal.overflow_add-result-then-at-text
-overflow_add-result-then-at-text c = record { fits = omega (arith, c.requires.right_count.not_over) }
+    row_begun c.requires.right_count c.loop-row.invariant (omega arith)
+    (told_on _ _ _ c.read_line-line.result c.in_ok-at.ensures.value c.read_line-line.ensures)
 
 pub returns-then-at-text : goal.returns-then-at-text
-returns-then-at-text c =
-    let l = c.loop-row in
-    rest_fault c.requires.right_count l.invariant.1 (omega arith) c.if-at-text.true
+returns-then-at-text c = rest_fault c.requires.right_count c.loop-row.invariant (omega arith) c.if-at-text.true
 
 pub returns : goal.returns
-returns c =
-    let l = c.loop-row in
-    spelt_out c.requires.right_count l.invariant.1 (omega arith) c.if-at-text.false
+returns c = spelt_out c.requires.right_count c.loop-row.invariant (omega arith) c.if-at-text.false
