@@ -16,7 +16,6 @@ ghost use Rattle.along.specs.Lines.{Highest, Roomy, More, Lining, LinedUp};
 use rules::{Point, Primitive};
 use says::Asked;
 use span::{Line, Stretch};
-use table::Leaf;
 
 // How many primitives were met, and how many of them have an entry.
 #[derive(Clone, Copy)]
@@ -98,10 +97,9 @@ fn keep_row(
     requires lining { Lining (point_at line p) (primitives_before table.now row) from to marks.old los.old his.old l }
     ensures { Lining (point_at line p) (primitives_before table.now (row + 1)) from to marks.new los.new his.new result }
 {
-    let leaf = table::primitive_at(table, row);
-    match leaf {
-        Leaf::Solid(s) => keep_solid(line, s, p, from, to, marks, los, his, l),
-        Leaf::None => l,
+    match table::primitive_at(table, row) {
+        Some(s) => keep_solid(line, s, p, from, to, marks, los, his, l),
+        None => l,
     }
 }
 
