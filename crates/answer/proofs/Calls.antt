@@ -18,7 +18,7 @@ use Rattle.rules.specs.ListWords.{list_window}
 use Rattle.rules.specs.Table.{primitives}
 use Rattle.rules.specs.Told.{Located, Searched, Tale, Told, fine, refused, tell, told_located, told_searched}
 use Rattle.rules.specs.TreeCalls.{point_refusal, point_tale, search_tale}
-use Rattle.laws.proofs.Telling.{told_now, told_later, told_fine}
+use Rattle.laws.proofs.Telling.{point_told, told_now, told_later, told_fine}
 use Rattle.frame.specs.declared.Tally.{Tally}
 use Rattle.frame.specs.Tallies.{seen, Tallied}
 use Rattle.says.specs.Checks.{Accepted}
@@ -48,14 +48,10 @@ module _ (t : List ℤ) (list : List ℕ) where
       pub point_out : {r : Refusal} → window ≡ some r → ListLocated t list p (Err r)
       point_out k = record { answer = goes_on (window ∷ []) answer A (told_now window [] answer k) }
 
-      located_fine : (r : Located) → window ≡ none → told_located r ≡ fine answer → ListLocated t list p r
-      located_fine r k e = record { answer = e ∙ goes_on (window ∷ []) answer A (told_later window [] answer k (told_fine answer)) }
-
-      pub point_inside : window ≡ none → inside_list (primitives t) list p ≡ true → ListLocated t list p (Ok true)
-      point_inside k i = located_fine (Ok true) k (ap (λ (b : Bool). fine (point_tale b)) (sym i))
-
-      pub point_outside : window ≡ none → inside_list (primitives t) list p ≡ false → ListLocated t list p (Ok false)
-      point_outside k i = located_fine (Ok false) k (ap (λ (b : Bool). fine (point_tale b)) (sym i))
+      pub point_fine : window ≡ none → {b : Bool} → b ≡ inside_list (primitives t) list p → ListLocated t list p (Ok b)
+      point_fine k {b} e = record {
+        answer = point_told b ∙ ap (λ (b : Bool). fine (point_tale b)) e ∙ goes_on (window ∷ []) answer A (told_later window [] answer k (told_fine answer));
+      }
 
   module _ (samples : List ℤ) (place : Place) where
     abbrev is_inside : Point → Bool

@@ -1,6 +1,6 @@
 -- What an answer tells of the rule behind it. Assumes nothing.
 use Rattle.std.specs.Prelude.{Ok, Err}
-use mathlib.Core.Bool.{true, ◌&&◌}
+use mathlib.Core.Bool.{Bool, true, false, ◌&&◌}
 use mathlib.Core.List.{List, [], ◌∷◌, ◌++◌}
 use mathlib.Core.Option.{Option, none, some}
 use mathlib.Core.Path.{◌≡◌, refl, sym, ap, ap₂, ◌∙◌}
@@ -13,8 +13,8 @@ use Rattle.rules.specs.declared.Refusal.{Refusal}
 use Rattle.rules.specs.Ranges.{within}
 use Rattle.rules.specs.Boxes.{Box, holds}
 use Rattle.rules.specs.Refusals.{refuse_unless}
-use Rattle.rules.specs.Told.{Checked, Tale, Told, sound, fine, refused, tell, told_checked}
-use Rattle.rules.specs.TreeCalls.{point_refusal}
+use Rattle.rules.specs.Told.{Checked, Tale, Told, sound, fine, refused, tell, told_checked, told_located}
+use Rattle.rules.specs.TreeCalls.{point_refusal, point_tale}
 use Rattle.laws.specs.Checking.{checked_by, first_refused}
 use Rattle.laws.proofs.Soundness.{unless_kept}
 
@@ -31,6 +31,11 @@ stopped (some q) {r} e = let s : q ≡ r = cc in ap some s
 pub checked_told : (x : Option Refusal) → told_checked (checked_by x) ≡ tell x sound
 checked_told none = refl
 checked_told (some r) = refl
+
+-- an answer about a point tells whether it is inside
+pub point_told : (b : Bool) → told_located (Ok b) ≡ fine (point_tale b)
+point_told true = refl
+point_told false = refl
 
 -- ---- checks one after the other
 

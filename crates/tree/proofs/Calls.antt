@@ -16,7 +16,7 @@ use Rattle.rules.specs.Inside.{inside}
 use Rattle.rules.specs.Frame.{frame_refusal, sample_inside, first_inside, inside_count}
 use Rattle.rules.specs.Told.{Located, Searched, Tale, fine, told_located, told_searched}
 use Rattle.rules.specs.TreeCalls.{point_refusal, point_tale, search_tale, TreeLocated, TreeSearched}
-use Rattle.laws.proofs.Telling.{told_now, told_later, told_fine}
+use Rattle.laws.proofs.Telling.{point_told, told_now, told_later, told_fine}
 use Rattle.frame.specs.declared.Tally.{Tally}
 use Rattle.frame.specs.Tallies.{seen, Tallied}
 
@@ -31,14 +31,11 @@ module _ (t : List ℤ) (p : Point) where
     pub point_out : {r : Refusal} → point_refusal everywhere p ≡ some r → TreeLocated t p (Err r)
     point_out k = record { answer = told_later (table_refusal t) (point_refusal everywhere p ∷ []) answer h (told_now (point_refusal everywhere p) [] answer k) }
 
-    located_fine : (r : Located) → point_refusal everywhere p ≡ none → told_located r ≡ fine answer → TreeLocated t p r
-    located_fine r k e = record { answer = e ∙ told_later (table_refusal t) (point_refusal everywhere p ∷ []) answer h (told_later (point_refusal everywhere p) [] answer k (told_fine answer)) }
-
-    pub point_inside : point_refusal everywhere p ≡ none → inside (tree_of t) p ≡ true → TreeLocated t p (Ok true)
-    point_inside k i = located_fine (Ok true) k (ap (λ (b : Bool). fine (point_tale b)) (sym i))
-
-    pub point_outside : point_refusal everywhere p ≡ none → inside (tree_of t) p ≡ false → TreeLocated t p (Ok false)
-    point_outside k i = located_fine (Ok false) k (ap (λ (b : Bool). fine (point_tale b)) (sym i))
+    pub point_fine : point_refusal everywhere p ≡ none → {b : Bool} → b ≡ inside (tree_of t) p → TreeLocated t p (Ok b)
+    point_fine k {b} e = record {
+      answer = point_told b ∙ ap (λ (b : Bool). fine (point_tale b)) e
+          ∙ told_later (table_refusal t) (point_refusal everywhere p ∷ []) answer h (told_later (point_refusal everywhere p) [] answer k (told_fine answer));
+    }
 
 module _ (t samples : List ℤ) (place : Place) where
   abbrev tale : Tale

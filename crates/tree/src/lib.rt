@@ -7,59 +7,39 @@ ghost use Rattle.std.specs.Prelude.{◌≡◌};
 ghost use Rattle.rules.specs.Verdict.{table_refusal};
 ghost use Rattle.rules.specs.TreeCalls.{TreeLocated, TreeSearched};
 
-use rules::{Checked, Located, Place, Point, Searched};
+use rules::{Hit, Place, Point, Refusal};
 use says::Asked;
 
 // The table is sound: the range, then the tree.
-fn sound_point(table: &[i32], p: Point) -> Located
+fn sound_point(table: &[i32], p: Point) -> Result<bool, Refusal>
     requires { table_refusal table.now ≡ none }
     ensures { TreeLocated table.now p result }
 {
-    let placed = window::check_point(window::everywhere(), p);
-    match placed {
-        Checked::Refused(refusal) => Located::Refused(refusal),
-        Checked::Sound => {
-            let no_list: [u64; 1] = [0; 1];
-            if sweep::inside_at(Asked::Tree, table, &no_list, p) {
-                Located::Inside
-            } else {
-                Located::Outside
-            }
-        }
-    }
+    window::check_point(window::everywhere(), p)?;
+    let no_list: [u64; 1] = [0; 1];
+    Ok(sweep::inside_at(Asked::Tree, table, &no_list, p))
 }
 
-pub fn tree_point(table: &[i32], p: Point) -> Located
+pub fn tree_point(table: &[i32], p: Point) -> Result<bool, Refusal>
     ensures { TreeLocated table.now p result }
 {
-    let checked = table::check(table);
-    match checked {
-        Checked::Refused(refusal) => Located::Refused(refusal),
-        Checked::Sound => sound_point(table, p),
-    }
+    table::check(table)?;
+    sound_point(table, p)
 }
 
 // The table is sound: the frame, then its samples.
-fn sound_search(table: &[i32], samples: &[i16], place: Place) -> Searched
+fn sound_search(table: &[i32], samples: &[i16], place: Place) -> Result<Option<Hit>, Refusal>
     requires { table_refusal table.now ≡ none }
     ensures { TreeSearched table.now samples.now place result }
 {
-    let framed = frame::check_frame(samples, place);
-    match framed {
-        Checked::Refused(refusal) => Searched::Refused(refusal),
-        Checked::Sound => {
-            let no_list: [u64; 1] = [0; 1];
-            frame::answer(sweep::scan(Asked::Tree, table, &no_list, samples, place))
-        }
-    }
+    frame::check_frame(samples, place)?;
+    let no_list: [u64; 1] = [0; 1];
+    Ok(frame::answer(sweep::scan(Asked::Tree, table, &no_list, samples, place)))
 }
 
-pub fn tree_search(table: &[i32], samples: &[i16], place: Place) -> Searched
+pub fn tree_search(table: &[i32], samples: &[i16], place: Place) -> Result<Option<Hit>, Refusal>
     ensures { TreeSearched table.now samples.now place result }
 {
-    let checked = table::check(table);
-    match checked {
-        Checked::Refused(refusal) => Searched::Refused(refusal),
-        Checked::Sound => sound_search(table, samples, place),
-    }
+    table::check(table)?;
+    sound_search(table, samples, place)
 }

@@ -1,48 +1,35 @@
-use native.Mathlib.Omega.{arith}
-use mathlib.Core.Path.{refl, sym, ap, ◌∙◌}
-use lib.ListN.{length}
-use Rattle.ground.proofs.Counting.{kept, broken, all_kept}
-use Rattle.rules.specs.declared.Rule.TheVariants as rule
+use mathlib.Core.Bool.{Bool}
+use mathlib.Core.List.{List}
+use mathlib.Core.Path.{◌≡◌, ap, ◌∙◌}
+use Prim.Native.Nat.{ℕ}
+use lib.IntN.{ℤ}
+use Rattle.rules.specs.declared.Place.{Place}
+use Rattle.rules.specs.declared.Point.{Point}
+use Rattle.rules.specs.declared.Rule.TheVariants.{Outside}
+use Rattle.rules.specs.declared.Window.{Window}
 use Rattle.rules.specs.Boxes.{holds, window_box}
+use Rattle.rules.specs.Frame.{code_at, point_of}
 use Rattle.rules.specs.Refusals.{refuse_unless}
+use Rattle.rules.specs.Told.{Checked}
 use Rattle.laws.specs.Checking.{checked_by}
+use Rattle.laws.proofs.Turns.{turn_kept, turn_broken, turns_over}
 use Rattle.answer.proofs.check_leaves.Invariants.{rule}
 use Rattle.answer.proofs.check_leaves.Goals as goal
 
-pub loop-k-init : goal.loop-k-init
-loop-k-init c = (omega arith, refl)
+-- sample k was held against the window
+module _ (w : Window) (samples : List ℤ) (place : Place) (k : ℕ) {p : Point} (is : p ≡ point_of place k (code_at samples k)) where
+  held : {b : Bool} → b ≡ holds (window_box w) p → {r : Checked} → r ≡ checked_by (refuse_unless b Outside k) → r ≡ checked_by (rule w samples place k)
+  held e told = told ∙ ap (λ (b : Bool). checked_by (refuse_unless b Outside k)) (e ∙ ap (holds (window_box w)) is)
 
-pub point_at-requires : goal.point_at-requires
-point_at-requires c = record { k_in_bounds = c.loop-k-test.true; place_value = c.requires }
-
-pub returns-then-not-in_window : goal.returns-then-not-in_window
-returns-then-not-in_window c =
-    let q = c.before.before in
-    let p = q.before in
-    let l = p.before.before in
-    let s = l.before in
-    let r = rule s.args.w s.args.samples.now s.args.place in
-    let out = sym (q.in_window.ensures ∙ ap (holds (window_box s.args.w)) p.point_at.ensures.value) ∙ c.if-not-in_window.true in
-    c.refused.ensures
-    ∙ sym (ap checked_by (l.loop-k.invariant.1 ∙ broken r l.loop-k.k (length s.args.samples.now) p.loop-k-test.true (ap (λ b. refuse_unless b rule.Outside l.loop-k.k) out)))
-
-pub overflow_add-k : goal.overflow_add-k
-overflow_add-k c = omega arith
-
-pub loop-k-smaller : goal.loop-k-smaller
-loop-k-smaller c = omega arith
+pub returns-in_err-refuse_unless : goal.returns-in_err-refuse_unless
+returns-in_err-refuse_unless c =
+    turn_broken (rule c.args.w c.args.samples.now c.args.place) c.loop-k.invariant c.loop-k-test.true c.from_residual.ensures.1
+    (held c.args.w c.args.samples.now c.args.place c.loop-k.k c.point_at.ensures.value c.in_window-inside.ensures c.in_err-refuse_unless.ensures)
 
 pub loop-k-preserved : goal.loop-k-preserved
 loop-k-preserved c =
-    let q = c.before in
-    let p = q.before in
-    let l = p.before.before in
-    let s = l.before in
-    let r = rule s.args.w s.args.samples.now s.args.place in
-    let within_it = sym (q.in_window.ensures ∙ ap (holds (window_box s.args.w)) p.point_at.ensures.value) ∙ c.if-not-in_window.false in
-    (omega arith, l.loop-k.invariant.1 ∙ kept r l.loop-k.k (length s.args.samples.now) p.loop-k-test.true (ap (λ b. refuse_unless b rule.Outside l.loop-k.k) within_it))
+    turn_kept (rule c.args.w c.args.samples.now c.args.place) c.loop-k.invariant c.loop-k-test.true
+    (held c.args.w c.args.samples.now c.args.place c.loop-k.k c.point_at.ensures.value c.in_window-inside.ensures c.in_ok-refuse_unless.ensures)
 
 pub returns : goal.returns
-returns c =
-    let s = c.before.before in
-    sym (ap checked_by (c.loop-k.invariant.1 ∙ all_kept (rule s.args.w s.args.samples.now s.args.place) c.loop-k.k (length s.args.samples.now) c.loop-k-test.false))
+returns c = turns_over (rule c.args.w c.args.samples.now c.args.place) c.loop-k.invariant c.loop-k-test.false

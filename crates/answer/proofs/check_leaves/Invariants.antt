@@ -19,7 +19,4 @@ abbrev pub rule : Window → List ℤ → Place → ℕ → Option Refusal
 rule w samples place k = refuse_unless (holds (window_box w) (point_of place k (code_at samples k))) rule.Outside k
 
 abbrev pub invariant-loop-k : goal.invariant-loop-k
-invariant-loop-k l = (l.k ≤ length l.samples) × (rulings (rule l.w l.samples l.place) 0 (length l.samples) ≡ rulings (rule l.w l.samples l.place) l.k (length l.samples))
-
-abbrev pub decreases-loop-k : goal.decreases-loop-k
-decreases-loop-k l = length l.samples - l.k
+invariant-loop-k l = rulings (rule l.w l.samples l.place) 0 (length l.samples) ≡ rulings (rule l.w l.samples l.place) l.k (length l.samples)

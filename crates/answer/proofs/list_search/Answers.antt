@@ -1,21 +1,14 @@
-use mathlib.Core.Path.{sym, ◌∙◌}
-use Rattle.rules.specs.ListCalls.{accept_refusal}
+use Rattle.rules.specs.ListCalls.{ListSearched}
 use Rattle.laws.proofs.Telling.{went_on, stopped}
+use Rattle.laws.proofs.Turns.{on_exit}
 use Rattle.says.proofs.Asking.{accepted}
 use Rattle.answer.proofs.Calls.{search_refused}
 use Rattle.answer.proofs.list_search.Goals as goal
 
 pub search_by-requires : goal.search_by-requires
-search_by-requires c =
-    let s = c.before.before.before.before in
-    let t = s.args.table.now in
-    let list = s.args.list.now in
-    accepted t list (went_on (accept_refusal t list) (sym c.in-Sound.is ∙ c.check_both-checked.ensures))
+search_by-requires c = accepted c.args.table.now c.args.list.now (went_on _ c.in_ok-check_both.ensures)
 
-pub returns-in-Refused : goal.returns-in-Refused
-returns-in-Refused c =
-    let d = c.before.before in
-    let s = d.before.before in
-    let t = s.args.table.now in
-    let list = s.args.list.now in
-    search_refused t list s.args.samples.now s.args.place (stopped (accept_refusal t list) (sym c.in-Refused.is ∙ d.check_both-checked.ensures))
+pub returns-in_err-check_both : goal.returns-in_err-check_both
+returns-in_err-check_both c =
+    on_exit (ListSearched c.args.table.now c.args.list.now c.args.samples.now c.args.place) c.from_residual.ensures.1
+    (search_refused c.args.table.now c.args.list.now c.args.samples.now c.args.place (stopped _ c.in_err-check_both.ensures))

@@ -1,48 +1,39 @@
-use mathlib.Core.Path.{◌≡◌, sym, ap, ◌∙◌}
+use Rattle.std.specs.Prelude.{Ok}
+use mathlib.Core.List.{List}
+use mathlib.Core.Path.{◌≡◌, ap, ◌∙◌}
+use lib.IntN.{ℤ}
+use Rattle.rules.specs.declared.Place.{Place}
 use Rattle.rules.specs.Boxes.{Box}
 use Rattle.rules.specs.Frame.{leaves_refusal}
-use Rattle.rules.specs.ListWords.{list_window}
-use Rattle.laws.proofs.Telling.{went_on, stopped}
-use Rattle.laws.proofs.SoundLists.{list_sound}
+use Rattle.rules.specs.ListCalls.{ListSearched}
+use Rattle.rules.specs.Told.{Checked}
 use Rattle.laws.specs.Checking.{checked_by}
+use Rattle.laws.proofs.SoundLists.{list_sound}
+use Rattle.laws.proofs.Telling.{went_on, stopped}
+use Rattle.laws.proofs.Turns.{on_exit}
 use Rattle.answer.proofs.Calls.{search_leaves, search_fine}
-use Rattle.answer.proofs.search_in.Lts as lts
-use Rattle.answer.proofs.search_in.Tie as tie
-use Rattle.answer.proofs.search_in.Reads as reads
 use Rattle.answer.proofs.search_in.Goals as goal
 
-abbrev After-check_leaves : Type 0
-After-check_leaves = lts.After-check_leaves tie.the-claims reads.Pre reads.Post tie.handed_clauses
-
--- what the check of the samples came to
-placed : (c : After-check_leaves) → let s = c.before.before.before in c.check_leaves-placed.result ≡ checked_by (leaves_refusal (list_window s.args.list.now) s.args.samples.now s.args.place)
-placed c =
-    let s = c.before.before.before in
-    c.check_leaves-placed.ensures ∙ ap (λ (b : Box). checked_by (leaves_refusal b s.args.samples.now s.args.place)) c.window_of.ensures
+-- the window that was asked is the list's
+placed : {a b : Box} → a ≡ b → (samples : List ℤ) (place : Place) {r : Checked} → r ≡ checked_by (leaves_refusal a samples place) → r ≡ checked_by (leaves_refusal b samples place)
+placed e samples place h = h ∙ ap (λ (b : Box). checked_by (leaves_refusal b samples place)) e
 
 pub window_of-requires : goal.window_of-requires
 window_of-requires c = list_sound c.args.list.now c.requires.accepted.list_right
 
-pub check_leaves-placed-requires : goal.check_leaves-placed-requires
-check_leaves-placed-requires c = c.requires.place_value
+pub check_leaves-requires : goal.check_leaves-requires
+check_leaves-requires c = c.requires.place_value
 
 pub scan-requires : goal.scan-requires
-scan-requires c =
-    let at_window_of = c.before.before.before in record { ready = at_window_of.requires.accepted; place_value = at_window_of.requires.place_value }
+scan-requires c = record { ready = c.requires.accepted; place_value = c.requires.place_value }
 
-pub returns-in-Refused : goal.returns-in-Refused
-returns-in-Refused c =
-    let d = c.before.before in
-    let s = d.before.before.before in
-    let rule = leaves_refusal (list_window s.args.list.now) s.args.samples.now s.args.place in
-    search_leaves s.args.table.now s.args.list.now s.args.samples.now s.args.place s.requires.accepted s.requires.place_value
-    (stopped rule (sym c.in-Refused.is ∙ placed d))
+pub returns-in_err-check_leaves : goal.returns-in_err-check_leaves
+returns-in_err-check_leaves c =
+    on_exit (ListSearched c.args.table.now c.args.list.now c.args.samples.now c.args.place) c.from_residual.ensures.1
+    (search_leaves c.args.table.now c.args.list.now c.args.samples.now c.args.place c.requires.accepted c.requires.place_value
+    (stopped _ (placed c.window_of.ensures c.args.samples.now c.args.place c.in_err-check_leaves.ensures)))
 
-pub returns-in-Sound : goal.returns-in-Sound
-returns-in-Sound c =
-    let k = c.before.before.before in
-    let d = k.before in
-    let s = d.before.before.before in
-    let rule = leaves_refusal (list_window s.args.list.now) s.args.samples.now s.args.place in
-    search_fine s.args.table.now s.args.list.now s.args.samples.now s.args.place s.requires.accepted s.requires.place_value
-    (went_on rule (sym k.in-Sound.is ∙ placed d)) c.scan.ensures c.answer.result c.answer.ensures
+pub returns : goal.returns
+returns c =
+    search_fine c.args.table.now c.args.list.now c.args.samples.now c.args.place c.requires.accepted c.requires.place_value
+    (went_on _ (placed c.window_of.ensures c.args.samples.now c.args.place c.in_ok-check_leaves.ensures)) c.scan.ensures (Ok c.answer.result) c.answer.ensures

@@ -1,36 +1,20 @@
-use mathlib.Core.Option.{none}
-use mathlib.Core.Path.{◌≡◌, sym, ◌∙◌}
-use Rattle.rules.specs.Frame.{frame_refusal}
-use Rattle.laws.proofs.Telling.{went_on, stopped}
+use Rattle.std.specs.Prelude.{Ok}
+use Rattle.rules.specs.TreeCalls.{TreeSearched}
 use Rattle.laws.proofs.Soundness.{table_sound}
+use Rattle.laws.proofs.Telling.{went_on, stopped}
+use Rattle.laws.proofs.Turns.{on_exit}
 use Rattle.tree.proofs.Calls.{search_frame, search_fine}
-use Rattle.tree.proofs.sound_search.Lts as lts
-use Rattle.tree.proofs.sound_search.Tie as tie
-use Rattle.tree.proofs.sound_search.Reads as reads
 use Rattle.tree.proofs.sound_search.Goals as goal
 
-abbrev After-enum_told : Type 0
-After-enum_told = lts.Past-After-enum_told tie.the-claims reads.Pre reads.Post tie.handed_clauses
-
--- the frame was let through
-framed : (c : After-enum_told) → let s = c.before.before in frame_refusal s.args.samples.now s.args.place ≡ none
-framed c =
-    let s = c.before.before in
-    went_on (frame_refusal s.args.samples.now s.args.place) (sym c.in-Sound.is ∙ c.check_frame-framed.ensures)
-
 pub scan-requires : goal.scan-requires
-scan-requires c =
-    let d = c.before in
-    let s = d.before.before in record { ready = table_sound s.args.table.now s.requires; place_value = framed d }
+scan-requires c = record { ready = table_sound c.args.table.now c.requires; place_value = went_on _ c.in_ok-check_frame.ensures }
 
-pub returns-in-Refused : goal.returns-in-Refused
-returns-in-Refused c =
-    let s = c.before.before in
-    search_frame s.args.table.now s.args.samples.now s.args.place s.requires
-    (stopped (frame_refusal s.args.samples.now s.args.place) (sym c.in-Refused.is ∙ c.check_frame-framed.ensures))
+pub returns-in_err-check_frame : goal.returns-in_err-check_frame
+returns-in_err-check_frame c =
+    on_exit (TreeSearched c.args.table.now c.args.samples.now c.args.place) c.from_residual.ensures.1
+    (search_frame c.args.table.now c.args.samples.now c.args.place c.requires (stopped _ c.in_err-check_frame.ensures))
 
-pub returns-in-Sound : goal.returns-in-Sound
-returns-in-Sound c =
-    let d = c.before.before.before in
-    let s = d.before.before in
-    search_fine s.args.table.now s.args.samples.now s.args.place s.requires (framed d) c.scan.ensures c.answer.result c.answer.ensures
+pub returns : goal.returns
+returns c =
+    search_fine c.args.table.now c.args.samples.now c.args.place c.requires (went_on _ c.in_ok-check_frame.ensures) c.scan.ensures (Ok c.answer.result)
+    c.answer.ensures
