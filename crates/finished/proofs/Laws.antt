@@ -15,8 +15,8 @@ use Rattle.moves.specs.Moves.{operation_number, AreWords, IsWord}
 use Rattle.normal.specs.declared.Top.TheVariants.{Node}
 use Rattle.normal.specs.Prefix.{top, head, left_of, right_of, Small, Lies}
 use Rattle.normal.proofs.Reading.{tree_at, lies_tree}
-use Rattle.normal.proofs.Words.{parts_of, flat_leaf, number_le, node_head, top_node, lies_right}
-use Rattle.finished.specs.Rows.{Rowed}
+use Rattle.normal.proofs.Words.{parts_of, flat_leaf, number_le, node_head, top_node, lies_left, lies_right}
+use Rattle.finished.specs.Rows.{Rowed, Emitted}
 
 -- the last row of a node
 abbrev own : ℕ → Form → List ℤ
@@ -37,12 +37,12 @@ rows_leaf row (X ∩ Y) h = absurd (omega arith)
 rows_leaf row (X ∖ Y) h = absurd (omega arith)
 
 -- three runs of writes, one after the other
-pub three_runs : (out : List ℤ) (i j k : ℕ) (x y z : List ℤ) → j ≡ i + length x → k ≡ j + length y → sets (sets (sets out i x) j y) k z ≡ sets out i (x ++ (y ++ z))
+three_runs : (out : List ℤ) (i j k : ℕ) (x y z : List ℤ) → j ≡ i + length x → k ≡ j + length y → sets (sets (sets out i x) j y) k z ≡ sets out i (x ++ (y ++ z))
 three_runs out i j k x y z e f =
     ap₂ (λ (m n : ℕ). sets (sets (sets out i x) m y) n z) e (f ∙ ap (λ (m : ℕ). m + length y) e)
     ∙ sym (sets_append (sets out i x) (i + length x) y z) ∙ sym (sets_append out i x (y ++ z))
 
-pub rows_parts : {w : List ℤ} {at : ℕ} {T : Form} → Lies w at T → 16 ≤ head T → rows_in T ≡ 1 + rows_in (left_of T) + rows_in (right_of T)
+rows_parts : {w : List ℤ} {at : ℕ} {T : Form} → Lies w at T → 16 ≤ head T → rows_in T ≡ 1 + rows_in (left_of T) + rows_in (right_of T)
 rows_parts {T = T} h k = (parts_of T h.small k).long
 
 pub rows_at : {w : List ℤ} {at : ℕ} {T : Form} → Lies w at T → rows_in (tree_at w at) ≡ rows_in T
@@ -52,7 +52,7 @@ pub rowed_length : {out done : List ℤ} {row r : ℕ} {T : Form} → Rowed out 
 rowed_length {out} {row = row} {T = T} h = ap length h.written ∙ length-sets out (row * 3) (rows_from row T)
 
 -- ---- a node's rows: its parts', then its own
-pub node_rowed : {w : List ℤ} {at row : ℕ} {out mid fin done : List ℤ} {T : Form} {m e : ℕ} → Lies w at T → 16 ≤ head T
+node_rowed : {w : List ℤ} {at row : ℕ} {out mid fin done : List ℤ} {T : Form} {m e : ℕ} → Lies w at T → 16 ≤ head T
     → Rowed out mid row (left_of T) m → Rowed mid fin m (right_of T) e → done ≡ sets fin (e * 3) (pos (head T - 16) ∷ pos (m - 1) ∷ pos (e - 1) ∷ [])
     → Rowed out done row T (e + 1)
 node_rowed {w} {at} {row} {out} {mid} {fin} {done} {T} {m} {e} h k p q d =
@@ -84,15 +84,24 @@ are_three a b c p q r (suc zero) h = q
 are_three a b c p q r (suc (suc zero)) h = r
 are_three a b c p q r (suc (suc (suc i))) h = absurd (omega arith)
 
--- ---- a node, and where the rows of its parts go
-module _ {w : List ℤ} {at : ℕ} {T : Form} {o : Operation} (l : Lies w at T) (n : Node o ≡ top T) where
+-- ---- a node there: what its calls promise, one after the other
+module _ {w : List ℤ} {at : ℕ} {T : Form} {o : Operation} (l : Lies w at T) (tops : (U : Form) → Lies w at U → Node o ≡ top U) where
   pub is_node : 16 ≤ head T
-  is_node = node_head T o (top_node T n)
+  is_node = node_head T o (top_node T (tops T l))
 
-  module _ {out mid : List ℤ} {row m : ℕ} (p : Rowed out mid row (left_of T) m) where
+  pub parts : rows_in T ≡ 1 + rows_in (left_of T) + rows_in (right_of T)
+  parts = rows_parts l is_node
+
+  pub left_lies : Lies w (at + 1) (left_of T)
+  left_lies = lies_left l is_node
+
+  module _ {out mid : List ℤ} {row m : ℕ} (left : Emitted w (at + 1) out mid row m) where
+    pub left_rows : Rowed out mid row (left_of T) m
+    left_rows = left (left_of T) left_lies
+
     pub right_lies : Lies w (at + 1 + (m - row)) (right_of T)
     right_lies =
-        let e : at + 1 + (m - row) ≡ at + 1 + rows_in (left_of T) = omega (arith, p.ends) in
+        let e : at + 1 + (m - row) ≡ at + 1 + rows_in (left_of T) = omega (arith, left_rows.ends) in
         subst (λ (j : ℕ). Lies w j (right_of T)) (sym e) (lies_right l is_node)
 
     -- the sizes, of the tree and its parts
@@ -105,13 +114,22 @@ module _ {w : List ℤ} {at : ℕ} {T : Form} {o : Operation} (l : Lies w at T) 
       pub long : length fin ≡ length out
       pub kind : operation_number o ≤ 21
 
-    pub sizes : {fin : List ℤ} {e : ℕ} → Rowed mid fin m (right_of T) e → Sizes fin e
-    sizes q = record {
-      whole = rows_parts l is_node;
-      first = p.ends;
-      second = q.ends;
-      left_one = some_rows (left_of T);
-      right_one = some_rows (right_of T);
-      long = rowed_length q ∙ rowed_length p;
-      kind = (number_le o).1;
-    }
+    module _ {fin : List ℤ} {e : ℕ} (right : Emitted w (at + 1 + (m - row)) mid fin m e) where
+      right_rows : Rowed mid fin m (right_of T) e
+      right_rows = right (right_of T) right_lies
+
+      pub sizes : Sizes fin e
+      sizes = record {
+        whole = parts;
+        first = left_rows.ends;
+        second = right_rows.ends;
+        left_one = some_rows (left_of T);
+        right_one = some_rows (right_of T);
+        long = rowed_length right_rows ∙ rowed_length left_rows;
+        kind = (number_le o).1;
+      }
+
+      pub node_done : {done : List ℤ} {k : ℕ} → k ≡ operation_number o - 16 → done ≡ sets fin (e * 3) (pos k ∷ pos (m - 1) ∷ pos (e - 1) ∷ []) → Rowed out done row T (e + 1)
+      node_done f d =
+          node_rowed l is_node left_rows right_rows
+          (d ∙ ap (λ (x : ℕ). sets fin (e * 3) (pos x ∷ pos (m - 1) ∷ pos (e - 1) ∷ [])) (f ∙ ap (λ (x : ℕ). x - 16) (sym (top_node T (tops T l)))))

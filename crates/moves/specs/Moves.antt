@@ -7,6 +7,7 @@ use Rattle.moves.specs.declared.Operation.TheVariants.{Union, Inter, Diff}
 abbrev pub most_words : ℕ
 most_words = 8191
 
+-- 16 and the kind of the row that tells of an operation
 abbrev pub operation_number : Operation → ℕ
 operation_number Union = 19
 operation_number Inter = 20
@@ -20,6 +21,7 @@ node operation n = pos (operation + 32 * n)
 abbrev pub IsWord : ℕ → Type 0
 IsWord x = x < 32 + 32 * most_words
 
+-- .. each of them
 abbrev pub AreWords : List ℕ → Type 0
 AreWords xs = (i : ℕ) → i < length xs → IsWord (slice_index xs i)
 

@@ -20,9 +20,9 @@ use Rattle.paper.proofs.Running.{runs_leaves, runs_weight, runs_high}
 use Rattle.paper.proofs.Taking.{weight_two}
 use Rattle.moves.specs.Moves.{most_words, node}
 use Rattle.normal.specs.Prefix.{flat, head, left_words, left_of, right_of, Small, Lies}
-use Rattle.normal.specs.Held.{Held, Ready, Leads, Stopped, Widens, Widened, goes_on}
+use Rattle.normal.specs.Held.{Held, Ready, Leads, Stopped, Reduced, Widens, Widened, AgainAt, Normalized, goes_on}
 use Rattle.normal.proofs.Words.{length_flat, Parts, of_union, parts_of, like, of_like, as_leaf, small_parts, head_le, left_words_rows}
-use Rattle.normal.proofs.Words.{held_lies, held_left, held_right, from_left, from_right}
+use Rattle.normal.proofs.Words.{lies_in, held_lies, held_left, held_right, from_left, from_right}
 use Rattle.normal.proofs.Reading.{tree_at, lies_tree}
 
 -- ---- the test
@@ -290,6 +290,43 @@ module _ {w : List ℤ} {at n : ℕ} {a : List ℤ} {U : Form} {c : List ℤ} (s
   onward_falls {w₀} {v} {m} l h g =
       subst (λ (T : Form). urge (tree_at v at) < urge T) (sym (lies_tree l))
       (subst (λ (T : Form). urge T < urge U) (sym (lies_tree (held_lies h))) (urge_falls U s.tree s.leads s.ends g))
+
+-- a turn: what its calls promise, one after the other
+module _ {w₀ w u : List ℤ} {at used n m : ℕ} {a : List ℤ} {T : Form} {c : List ℤ} (r : Ready w₀ at used a T c) (o : Onward w at n a T c true)
+    (e : length w ≡ length w₀) (reduces : Reduced w u at n m) where
+  pub stopped : Stopped u at m a o.tree c
+  stopped = reduces a o.tree c (onward_ready r e o)
+
+  module _ (f : length u ≡ length w) where
+    pub left_in : Ready u (at + 1) m (left_before stopped o.node) (left_of stopped.tree) (left_after stopped o.node)
+    left_in = left_ready stopped o.node (onward_ready r e o) f
+
+    few : rows_in (settled stopped.tree) ≤ most_words
+    few = settled_few stopped o.node (onward_ready r e o)
+
+    module _ {v : List ℤ} {l : ℕ} (left : Normalized u v (at + 1) m l) where
+      left_held : Held v (at + 1) l (left_before stopped o.node) (normalize (left_of stopped.tree)) (left_after stopped o.node)
+      left_held = left (left_before stopped o.node) (left_of stopped.tree) (left_after stopped o.node) left_in
+
+      pub grown : m ≤ l
+      grown = (left_grows stopped o.node left_held).0
+
+      pub widens : length v ≡ length u → Widens v at (l - m)
+      widens g = left_widens stopped o.node left_held (omega (arith, lies_in (held_lies r.held))) few
+
+      module _ {x : List ℤ} (wide : Widened v x at (l - m)) where
+        pub held_in : Held x at l a (settled stopped.tree) c
+        held_in = left_done stopped o.node left_held few wide
+
+        module _ {b : Bool} (test : AgainAt x at b) where
+          goes : b ≡ goes_on (settled stopped.tree)
+          goes = test (settled stopped.tree) (held_lies held_in) (settled_node stopped o.node)
+
+          pub falls : b ≡ true → urge (tree_at x at) < urge (tree_at w at)
+          falls k = onward_falls stopped o.node (held_lies o.held) held_in (sym goes ∙ k)
+
+          pub onward : (k : Bool) → b ≡ k → Onward x at l a T c k
+          onward k h = onward_next stopped o.node o.stage o.deep held_in (sym h ∙ goes)
 
 -- ---- the end
 pub normal_leaf : {w : List ℤ} {at n : ℕ} {a : List ℤ} {T : Form} {c : List ℤ} → head T < 16 → Held w at n a T c → Held w at n a (normalize T) c

@@ -22,6 +22,7 @@ top (X ∪ Y) = Node Union
 top (X ∩ Y) = Node Inter
 top (X ∖ Y) = Node Diff
 
+-- whether that operation does
 abbrev pub has_top : Operation → Form → Bool
 has_top Union (X ∪ Y) = true
 has_top Inter (X ∩ Y) = true

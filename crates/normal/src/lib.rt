@@ -45,6 +45,7 @@ fn stands(w: &[i32], at: usize, operation: Operation) -> bool
     }
 }
 
+// `w` and `used` stay two parameters: a struct round the lent area would promise its length anew in each clause, which a slice keeps by itself.
 // 1 to 6: the right part is a node, q; up to where words are in use then.
 fn by_right(
     w: &mut [i32],
