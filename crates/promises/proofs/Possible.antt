@@ -41,30 +41,14 @@ use Rattle.rules.specs.Tree.{tree_of}
 use Rattle.rules.specs.TreeCalls.{point_refusal, point_tale, search_tale, TableChecked, tree_point_refusal, TreeLocated, tree_search_refusal, TreeSearched}
 use Rattle.rules.specs.Waterfall.{rectangle_refusal}
 use Rattle.rules.specs.Verdict.{row_refusal_by, row_refusal, rows_refusal, child_once, child_refusal, table_refusal}
+use Rattle.rules.proofs.Told.{number_bounds}
 use Rattle.promises.specs.Possible.{last_refusal, InTable, Possible}
 
 -- ---- a refusal tells the number of its rule, which is one of the table; any other answer is possible where nothing is refused
 
-number_in_table : (r : Rule) → InTable (number_of r)
-number_in_table rule.Length = (omega arith, omega arith)
-number_in_table rule.Kind = (omega arith, omega arith)
-number_in_table rule.Fields = (omega arith, omega arith)
-number_in_table rule.Children = (omega arith, omega arith)
-number_in_table rule.Once = (omega arith, omega arith)
-number_in_table rule.Bound = (omega arith, omega arith)
-number_in_table rule.Choices = (omega arith, omega arith)
-number_in_table rule.Room = (omega arith, omega arith)
-number_in_table rule.List = (omega arith, omega arith)
-number_in_table rule.Outside = (omega arith, omega arith)
-number_in_table rule.Primitives = (omega arith, omega arith)
-number_in_table rule.Frame = (omega arith, omega arith)
-number_in_table rule.Text = (omega arith, omega arith)
-number_in_table rule.Leaves = (omega arith, omega arith)
-number_in_table rule.Ways = (omega arith, omega arith)
-
 told_possible : (rule : Option Refusal) (tale : Tale) → Possible (fine tale) → {told : Told} → told ≡ tell rule tale → Possible told
 told_possible none tale possible e = subst Possible (sym e) possible
-told_possible (some q) tale possible e = subst Possible (sym e) (number_in_table q.rule)
+told_possible (some q) tale possible e = subst Possible (sym e) (number_bounds q.rule)
 
 point_possible : (b : Bool) → Possible (fine (point_tale b))
 point_possible true = refl

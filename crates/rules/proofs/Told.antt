@@ -1,7 +1,7 @@
 -- An answer is what it tells: no two answers tell the same, in three words too, and the answer of a call that writes tells what it had to refuse.
 -- Assumes nothing.
 use Rattle.std.specs.Prelude.{Ok, Err, None, true, false}
-use Prim.Native.Nat.{ℕ}
+use Prim.Native.Nat.{ℕ, ◌≤◌}
 use Rattle.std.specs.Prelude.{true, false, Ok, Err, Some, None, eqb, if◌then◌else◌}
 use native.Mathlib.Omega.{arith}
 use mathlib.Core.List.{List, ◌∷◌, head-eq_of_cons-eq, tail-eq_of_cons-eq}
@@ -52,6 +52,23 @@ rule_back rule.Frame = refl
 rule_back rule.Text = refl
 rule_back rule.Leaves = refl
 rule_back rule.Ways = refl
+
+pub number_bounds : (r : Rule) → (1 ≤ number_of r) × (number_of r ≤ 15)
+number_bounds rule.Length = (omega arith, omega arith)
+number_bounds rule.Kind = (omega arith, omega arith)
+number_bounds rule.Fields = (omega arith, omega arith)
+number_bounds rule.Children = (omega arith, omega arith)
+number_bounds rule.Once = (omega arith, omega arith)
+number_bounds rule.Bound = (omega arith, omega arith)
+number_bounds rule.Choices = (omega arith, omega arith)
+number_bounds rule.Room = (omega arith, omega arith)
+number_bounds rule.List = (omega arith, omega arith)
+number_bounds rule.Outside = (omega arith, omega arith)
+number_bounds rule.Primitives = (omega arith, omega arith)
+number_bounds rule.Frame = (omega arith, omega arith)
+number_bounds rule.Text = (omega arith, omega arith)
+number_bounds rule.Leaves = (omega arith, omega arith)
+number_bounds rule.Ways = (omega arith, omega arith)
 
 pub rule_once : (r s : Rule) → number_of r ≡ number_of s → r ≡ s
 rule_once r s e = sym (rule_back r) ∙ ap rule_of e ∙ rule_back s

@@ -10,6 +10,7 @@ use lib.IntN.{ℤ}
 use lib.ListN.{length}
 use lib.Seq.{sets}
 use Rattle.ground.proofs.Counting.{first_broken, first_passed, first_kept}
+use Rattle.rules.specs.declared.Rule.TheVariants.{Room}
 use Rattle.rules.specs.declared.Place.{Place}
 use Rattle.rules.specs.declared.Refusal.{Refusal}
 use Rattle.rules.specs.ListCalls.{accept_refusal, screen_triples, screen_refusal, ScreenSearched}
@@ -27,7 +28,7 @@ pub shape_kept : (codes : List ℤ) (frames room : ℕ) → shape_refusal codes 
 shape_kept codes frames room right =
     let needed = triple_words * frames in
     let shape = first_kept (frames_refusal codes frames) (room_refusal needed room ∷ []) right in
-    let enough = unless_kept (leb needed room) 8 needed (first_kept (room_refusal needed room) [] shape.1).0 in
+    let enough = unless_kept (leb needed room) Room needed (first_kept (room_refusal needed room) [] shape.1).0 in
     (shape.0, leb-true needed room enough)
 
 module _ (t : List ℤ) (list : List ℕ) (codes : List ℤ) (frames : ℕ) (place : Place) (before : List ℕ) where

@@ -28,10 +28,10 @@ module _ (codes : List ℤ) (frames : ℕ) where
   abbrev uneven : Bool
   uneven = not (eqb (length codes % frames) 0)
 
-  pub count_wrong : wrong_count ≡ true → frames_refusal codes frames ≡ refuse 1rule.Kind 0
+  pub count_wrong : wrong_count ≡ true → frames_refusal codes frames ≡ refuse rule.Frame 0
   count_wrong h = go (eqb frames 0) (ltb most_frames frames) h
     where
-      go : (a b : Bool) → (a || b) ≡ true → refuse_if (a || (b || uneven)) rule.Frame 0 ≡ refuse 1rule.Kind 0
+      go : (a b : Bool) → (a || b) ≡ true → refuse_if (a || (b || uneven)) rule.Frame 0 ≡ refuse rule.Frame 0
       go true b e = refl
       go false true e = refl
       go false false e = cc
@@ -54,7 +54,7 @@ module _ (codes : List ℤ) (frames : ℕ) where
 
   pub frames_right : frames_refusal codes frames ≡ none → FramesRight
   frames_right e =
-      let a = or_false (eqb frames 0) (ltb most_frames frames || uneven) (if_kept (eqb frames 0 || (ltb most_frames frames || uneven)) 12 0 e) in
+      let a = or_false (eqb frames 0) (ltb most_frames frames || uneven) (if_kept (eqb frames 0 || (ltb most_frames frames || uneven)) rule.Frame 0 e) in
       let b = or_false (ltb most_frames frames) uneven a.1 in
       let counted : wrong_count ≡ false = rw (a.0, b.0) in
       let left : length codes % frames ≡ 0 = eqb-true (length codes % frames) 0 (not-false _ b.1) in

@@ -31,11 +31,11 @@ use Rattle.screen.specs.Places.{Alike, same, beyond}
 
 -- the frame is refused, so that neither its window nor what it hits is looked at
 refused_alike : (accept length columns : Option Refusal) (u v : Option Refusal) (m n : Tale)
-    → tell (first_of (accept ∷ first_of (length ∷ columns ∷ refuse 1rule.Kind 2 ∷ []) ∷ u ∷ [])) m
-    ≡ tell (first_of (accept ∷ first_of (length ∷ columns ∷ refuse 1rule.Kind 2 ∷ []) ∷ v ∷ [])) n
+    → tell (first_of (accept ∷ first_of (length ∷ columns ∷ refuse rule.Frame 2 ∷ []) ∷ u ∷ [])) m
+    ≡ tell (first_of (accept ∷ first_of (length ∷ columns ∷ refuse rule.Frame 2 ∷ []) ∷ v ∷ [])) n
 unfolding first_of
-refused_alike (some q) length columns u v m n = refl
-refused_alike none (some q) columns u v m n = refl
+refused_alike (some q) length reach u v m n = refl
+refused_alike none (some q) reach u v m n = refl
 refused_alike none none (some q) u v m n = refl
 refused_alike none none none u v m n = refl
 

@@ -13,7 +13,9 @@ use Rattle.ground.proofs.Counting.{numbers_below, first_kept}
 use Rattle.ground.proofs.Lists.{all_map, found}
 use Rattle.ground.proofs.Namings.{count_most}
 use Rattle.ground.proofs.Pieces.{from_length}
+use Rattle.rules.specs.declared.Rule.{Rule}
 use Rattle.rules.specs.declared.Rule.TheVariants as rule
+use Rattle.rules.proofs.Told.{number_bounds}
 use Rattle.rules.specs.declared.Place.{Place}
 use Rattle.rules.specs.declared.Point.{Point}
 use Rattle.rules.specs.declared.Refusal.{Refusal}
@@ -35,8 +37,8 @@ use Rattle.screen.specs.Triples.{Small}
 abbrev SmallRefusal : Refusal → Type 0
 SmallRefusal q = Small (refused q)
 
-few : (number value : ℕ) → 100 + number ≤ most_samples → value ≤ most_samples → SmallRefusal (record { number = number; value = value })
-few number value n v = (n, (v, (omega arith, tt)))
+few : (r : Rule) (value : ℕ) → value ≤ most_samples → SmallRefusal (record { rule = r; value = value })
+few r value v = (omega (arith, number_bounds r), (v, (omega arith, tt)))
 
 module _ (samples : List ℤ) (place : Place) where
   abbrev wrong_length : Bool
@@ -47,16 +49,16 @@ module _ (samples : List ℤ) (place : Place) where
 
   frame_small : Gives SmallRefusal (frame_refusal samples place)
   frame_small =
-      let length_rule = if_gives SmallRefusal wrong_length 12 0 (few 12 0 (omega arith) (omega arith)) in
-      let column_rule = unless_gives SmallRefusal columns_in 12 1 (few 12 1 (omega arith) (omega arith)) in
-      let number_rule = unless_gives SmallRefusal (within frames place.frame) 12 2 (few 12 2 (omega arith) (omega arith)) in
+      let length_rule = if_gives SmallRefusal wrong_length rule.Frame 0 (few rule.Frame 0 (omega arith)) in
+      let column_rule = unless_gives SmallRefusal columns_in rule.Frame 1 (few rule.Frame 1 (omega arith)) in
+      let number_rule = unless_gives SmallRefusal (within frames place.frame) rule.Frame 2 (few rule.Frame 2 (omega arith)) in
       first_gives SmallRefusal _ (length_rule, (column_rule, (number_rule, tt)))
 
   module _ (short : length samples ≤ most_samples) where
     leaves_small : (window : Box) → Gives SmallRefusal (leaves_refusal window samples place)
     leaves_small window =
         let is_in : ℕ → Bool = λ k. holds window (point_of place k (code_at samples k)) in
-        rulings_give SmallRefusal (λ k. refuse_unless (is_in k) rule.Outside k) (length samples) (λ k l. unless_gives SmallRefusal (is_in k) 10 k (few 10 k (omega arith) (omega arith)))
+        rulings_give SmallRefusal (λ k. refuse_unless (is_in k) rule.Outside k) (length samples) (λ k l. unless_gives SmallRefusal (is_in k) rule.Outside k (few rule.Outside k (omega arith)))
 
     found_small : (is_inside : Point → Bool) → Small (fine (search_tale (first_inside is_inside samples place) (inside_count is_inside samples place)))
     unfolding first_inside inside_count

@@ -5,7 +5,7 @@
 ghost use Rattle.std.specs.Prelude.{◌+◌, ◌*◌, ◌^◌, ◌≤◌, ◌<◌, [], ◌∷◌, ◌≡◌, length, take, drop};
 ghost use Rattle.std.proofs.Math.Option.{none};
 ghost use Rattle.std.proofs.lemmas.List.Edits.{sets};
-ghost use Rattle.rules.specs.Frame.{most_samples};
+ghost use Rattle.rules.specs.Rules.{number_of};
 ghost use Rattle.rules.specs.Screen.{most_frames, frames_refusal, later, triple_words, triple_of};
 ghost use Rattle.rules.specs.ListCalls.{ListSearched, screen_triples, ScreenSearched};
 ghost use Rattle.rules.specs.Told.{told_searched};
@@ -15,7 +15,7 @@ ghost use Rattle.screen.specs.Places.{Alike};
 ghost use Rattle.screen.specs.Shape.{shape_refusal};
 ghost use Rattle.screen.specs.Triples.{Small};
 
-use rules::{Checked, Place, Searched, Written};
+use rules::{Hit, Place, Refusal, Rule};
 
 // The three words at a position.
 fn put_words(triples: &mut [u32], at: usize, state: u32, value: u32, count: u32)
@@ -28,29 +28,25 @@ fn put_words(triples: &mut [u32], at: usize, state: u32, value: u32, count: u32)
 }
 
 // The first word of a frame that is refused.
-fn refused_state(number: u64) -> u32
-    requires { 100 + number ≤ most_samples }
-    ensures { result ≡ 100 + number }
+fn refused_state(rule: Rule) -> u32
+    ensures { result ≡ 100 + number_of rule }
 {
-    (100 + number) as u32
+    (100 + rule.number()) as u32
 }
 
 // What the search of a frame answers, in three words.
-fn put_triple(triples: &mut [u32], at: usize, searched: Searched)
+fn put_triple(triples: &mut [u32], at: usize, searched: Result<Option<Hit>, Refusal>)
     requires triple_words_in_bounds { at + triple_words ≤ length triples.old }
     requires small { Small (told_searched searched) }
     ensures { triples.new ≡ sets triples.old at (triple_of (told_searched searched)) }
 {
     match searched {
-        Searched::Clear => put_words(triples, at, 0, 0, 0),
-        Searched::Hit { first, count } => put_words(triples, at, 1, first as u32, count as u32),
-        Searched::Refused(refusal) => put_words(
-            triples,
-            at,
-            refused_state(refusal.number),
-            refusal.value as u32,
-            0,
-        ),
+        Ok(None) => put_words(triples, at, 0, 0, 0),
+        Ok(Some(hit)) => put_words(triples, at, 1, hit.first as u32, hit.count as u32),
+        Err(refusal) => {
+            let state = refused_state(refusal.rule);
+            put_words(triples, at, state, refusal.value as u32, 0)
+        }
     }
 }
 
@@ -63,8 +59,8 @@ fn later(place: Place, j: usize) -> Place
         return place;
     }
     Place {
-        first: place.first,
         frame: place.frame + (j as i32),
+        ..place
     }
 }
 
@@ -84,7 +80,7 @@ fn search_frame(
     size: usize,
     j: usize,
     place: Place,
-) -> Searched
+) -> Result<Option<Hit>, Refusal>
     requires accepted { Accepted table.now list.now }
     requires j_lt_most_frames { (j < most_frames) × ((j + 1) * size ≤ length codes.now) }
     ensures { ListSearched table.now list.now (take size (drop (j * size) codes.now)) (later place j) result }
@@ -110,26 +106,22 @@ fn put_triples(
     ensures { triples.new ≡ sets triples.old 0 (screen_triples table.now list.now codes.now frames place) }
 {
     let size = codes.len() / frames;
-    let mut j: usize = 0;
-    while j < frames {
+    for j in 0..frames {
         let searched = search_frame(table, list, codes, size, j, place);
         put_triple(triples, rules::TRIPLE_WORDS * j, searched);
-        j += 1;
     }
 }
 
 // There is a frame, there are not too many, the codes divide evenly, and there is room.
-fn check_screen(codes: &[i16], frames: usize, room: usize) -> Checked
+fn check_screen(codes: &[i16], frames: usize, room: usize) -> Result<(), Refusal>
     ensures { result ≡ checked_by (shape_refusal codes.now frames room) }
 {
     if (frames == 0) | (rules::MOST_FRAMES < frames) {
-        return table::refused(12, 0);
+        return Err(Refusal::new(Rule::Frame, 0));
     }
     let needed = rules::TRIPLE_WORDS * frames;
-    table::first_of(
-        table::refuse_if(codes.len() % frames != 0, 12, 0),
-        table::refuse_unless(needed <= room, 8, needed),
-    )
+    table::refuse_if(codes.len() % frames != 0, Rule::Frame, 0)?;
+    table::refuse_unless(needed <= room, Rule::Room, needed)
 }
 
 // Table and list are accepted: the shape and the room, then the triples.
@@ -140,18 +132,13 @@ fn search_frames(
     frames: usize,
     place: Place,
     triples: &mut [u32],
-) -> Written
+) -> Result<usize, Refusal>
     requires { Accepted table.now list.now }
     ensures { ScreenSearched table.now list.now codes.now frames place triples.old triples.new result }
 {
-    let checked = check_screen(codes, frames, triples.len());
-    match checked {
-        Checked::Refused(refusal) => Written::Refused(refusal),
-        Checked::Sound => {
-            put_triples(table, list, codes, frames, place, triples);
-            Written::Wrote(rules::TRIPLE_WORDS * frames)
-        }
-    }
+    check_screen(codes, frames, triples.len())?;
+    put_triples(table, list, codes, frames, place, triples);
+    Ok(rules::TRIPLE_WORDS * frames)
 }
 
 pub fn list_search_frames(
@@ -161,12 +148,9 @@ pub fn list_search_frames(
     frames: usize,
     place: Place,
     triples: &mut [u32],
-) -> Written
+) -> Result<usize, Refusal>
     ensures { ScreenSearched table.now list.now codes.now frames place triples.old triples.new result }
 {
-    let checked = accept::check_both(table, list);
-    match checked {
-        Checked::Refused(refusal) => Written::Refused(refusal),
-        Checked::Sound => search_frames(table, list, codes, frames, place, triples),
-    }
+    accept::check_both(table, list)?;
+    search_frames(table, list, codes, frames, place, triples)
 }

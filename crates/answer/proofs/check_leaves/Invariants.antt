@@ -5,7 +5,7 @@ use mathlib.Core.Path.{◌≡◌}
 use lib.IntN.{ℤ}
 use lib.ListN.{length}
 use Rattle.ground.specs.Lists.{rulings}
-use Rattle.rules.specs.declared.Rule.TheVariants as rule
+use Rattle.rules.specs.declared.Rule.TheVariants.{Outside}
 use Rattle.rules.specs.Boxes.{holds, window_box}
 use Rattle.rules.specs.Frame.{code_at, point_of}
 use Rattle.rules.specs.Refusals.{refuse_unless}
@@ -16,7 +16,7 @@ use Rattle.answer.proofs.check_leaves.Given as goal
 
 -- sample k is in the window
 abbrev pub rule : Window → List ℤ → Place → ℕ → Option Refusal
-rule w samples place k = refuse_unless (holds (window_box w) (point_of place k (code_at samples k))) rule.Outside k
+rule w samples place k = refuse_unless (holds (window_box w) (point_of place k (code_at samples k))) Outside k
 
 abbrev pub invariant-loop-k : goal.invariant-loop-k
 invariant-loop-k l = rulings (rule l.w l.samples l.place) 0 (length l.samples) ≡ rulings (rule l.w l.samples l.place) l.k (length l.samples)

@@ -6,7 +6,8 @@ use Rattle.rules.specs.ListWords.{list_window}
 use Rattle.rules.specs.Told.{Checked}
 use Rattle.rules.specs.TreeCalls.{point_refusal}
 use Rattle.laws.specs.Checking.{checked_by}
-use Rattle.laws.proofs.SoundLists.{list_sound, list_window_in_range}
+use Rattle.laws.proofs.Held.{list_window_in_range}
+use Rattle.laws.proofs.SoundLists.{list_sound}
 use Rattle.laws.proofs.Telling.{point_holds, went_on, stopped}
 use Rattle.laws.proofs.Turns.{on_exit}
 use Rattle.answer.proofs.Calls.{point_out, point_fine}

@@ -1,23 +1,16 @@
-use mathlib.Core.Path.{sym, ◌∙◌}
-use Rattle.rules.specs.ListCalls.{accept_refusal}
+use Rattle.rules.specs.ListCalls.{ScreenSearched}
 use Rattle.laws.proofs.Telling.{went_on, stopped}
+use Rattle.laws.proofs.Turns.{on_exit}
 use Rattle.says.proofs.Asking.{accepted}
 use Rattle.screen.proofs.Calls.{not_accepted}
 use Rattle.screen.proofs.list_search_frames.Goals as goal
 
 pub search_frames-requires : goal.search_frames-requires
-search_frames-requires c =
-    let at_check_both = c.before.before.before in
-    let s = at_check_both.before.before.before in
-    let t = s.args.table.now in
-    let list = s.args.list.now in
-    accepted t list (went_on (accept_refusal t list) (sym c.in-Sound.is ∙ at_check_both.check_both-checked.ensures))
+search_frames-requires c = accepted c.args.table.now c.args.list.now (went_on _ c.in_ok-check_both.ensures)
 
-pub returns-in-Refused : goal.returns-in-Refused
-returns-in-Refused c =
-    let at_check_both = c.before.before in
-    let s = at_check_both.before.before.before in
-    let t = s.args.table.now in
-    let list = s.args.list.now in
-    not_accepted t list s.args.codes.now s.args.frames s.args.place s.args.triples.now
-    (stopped (accept_refusal t list) (sym c.in-Refused.is ∙ at_check_both.check_both-checked.ensures))
+pub returns-in_err-check_both : goal.returns-in_err-check_both
+returns-in_err-check_both c =
+    on_exit (ScreenSearched c.args.table.now c.args.list.now c.args.codes.now c.args.frames c.args.place c.args.triples.now c.args.triples.now)
+    c.from_residual.ensures.1
+    (not_accepted c.args.table.now c.args.list.now c.args.codes.now c.args.frames c.args.place c.args.triples.now
+    (stopped _ c.in_err-check_both.ensures))

@@ -6,7 +6,4 @@ use Rattle.screen.proofs.put_triples.Given as goal
 
 abbrev pub invariant-loop-j : goal.invariant-loop-j
 invariant-loop-j l =
-    (l.j ≤ l.frames) × (l.triples ≡ sets l.initial.triples 0 (triples_to l.table l.list l.codes l.frames l.place l.j))
-
-abbrev pub decreases-loop-j : goal.decreases-loop-j
-decreases-loop-j l = l.frames - l.j
+    l.triples ≡ sets l.initial.triples 0 (triples_to l.table l.list l.codes l.frames l.place l.j)

@@ -1,56 +1,29 @@
 use native.Mathlib.Omega.{arith}
-use mathlib.Core.Option.{none}
-use mathlib.Core.Path.{◌≡◌, sym, ◌∙◌}
 use lib.ListN.{length}
+use Rattle.rules.specs.ListCalls.{ScreenSearched}
 use Rattle.laws.proofs.Telling.{went_on, stopped}
-use Rattle.screen.specs.Shape.{shape_refusal}
-use Rattle.screen.proofs.Calls.{shape_kept, shape_wrong, written}
+use Rattle.laws.proofs.Turns.{on_exit}
 use Rattle.screen.proofs.Frames.{frames_right}
-use Rattle.screen.proofs.search_frames.Lts as lts
-use Rattle.screen.proofs.search_frames.Tie as tie
-use Rattle.screen.proofs.search_frames.Reads as reads
+use Rattle.screen.proofs.Calls.{shape_kept, shape_wrong, written}
 use Rattle.screen.proofs.search_frames.Goals as goal
-
-abbrev After-enum_told : Type 0
-After-enum_told = lts.Past-After-enum_told tie.the-claims reads.Pre reads.Post tie.handed_clauses
-
--- where the check went on, no rule of the shape or the room is broken
-kept : (c : After-enum_told) →
-    let s = c.before.before.before.before in
-    shape_refusal s.args.codes.now s.args.frames (length s.args.triples.now) ≡ none
-kept c =
-    let at_check_screen = c.before in
-    let s = at_check_screen.before.before.before in
-    went_on (shape_refusal s.args.codes.now s.args.frames (length s.args.triples.now))
-    (sym c.in-Sound.is ∙ at_check_screen.check_screen-checked.ensures)
 
 pub put_triples-requires : goal.put_triples-requires
 put_triples-requires c =
-    let told = c.before.before in
-    let s = told.before.before.before.before in record {
-      accepted = s.requires;
-      frames_value = (shape_kept s.args.codes.now s.args.frames (length s.args.triples.now) (kept told)).0;
-      frames_in_bounds = (shape_kept s.args.codes.now s.args.frames (length s.args.triples.now) (kept told)).1;
-    }
+    let kept = shape_kept c.args.codes.now c.args.frames (length c.args.triples.now) (went_on _ c.in_ok-check_screen.ensures) in record { accepted = c.requires; frames_value = kept.0; frames_in_bounds = kept.1 }
 
 pub overflow_mul-result : goal.overflow_mul-result
 overflow_mul-result c =
-    let told = c.before.before.before.before.before in
-    let s = told.before.before.before.before in
-    let right = (shape_kept s.args.codes.now s.args.frames (length s.args.triples.now) (kept told)).0 in
-    record { fits = omega (arith, (frames_right s.args.codes.now s.args.frames right).not_over) }
+    let kept = shape_kept c.args.codes.now c.args.frames (length c.args.triples.now) (went_on _ c.in_ok-check_screen.ensures) in
+    record { fits = omega (arith, (frames_right c.args.codes.now c.args.frames kept.0).not_over) }
 
-pub returns-in-Refused : goal.returns-in-Refused
-returns-in-Refused c =
-    let at_check_screen = c.before.before in
-    let s = at_check_screen.before.before.before in
-    shape_wrong s.args.table.now s.args.list.now s.args.codes.now s.args.frames s.args.place s.args.triples.now s.requires
-    (stopped (shape_refusal s.args.codes.now s.args.frames (length s.args.triples.now)) (sym c.in-Refused.is ∙ at_check_screen.check_screen-checked.ensures))
+pub returns-in_err-check_screen : goal.returns-in_err-check_screen
+returns-in_err-check_screen c =
+    on_exit (ScreenSearched c.args.table.now c.args.list.now c.args.codes.now c.args.frames c.args.place c.args.triples.now c.args.triples.now)
+    c.from_residual.ensures.1
+    (shape_wrong c.args.table.now c.args.list.now c.args.codes.now c.args.frames c.args.place c.args.triples.now c.requires
+    (stopped _ c.in_err-check_screen.ensures))
 
-pub returns-in-Sound : goal.returns-in-Sound
-returns-in-Sound c =
-    let at_put_triples = c.before.before.before in
-    let told = at_put_triples.before.before in
-    let s = told.before.before.before.before in
-    written s.args.table.now s.args.list.now s.args.codes.now s.args.frames s.args.place s.args.triples.now s.requires
-    (kept told) at_put_triples.put_triples.ensures
+pub returns : goal.returns
+returns c =
+    written c.args.table.now c.args.list.now c.args.codes.now c.args.frames c.args.place c.args.triples.now c.requires
+    (went_on _ c.in_ok-check_screen.ensures) c.put_triples.ensures
