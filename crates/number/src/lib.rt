@@ -28,10 +28,11 @@ pub fn decimal_length(n: u64) -> usize
 pub fn number_length(v: i32) -> usize
     ensures { result ≡ length (number_text v) }
 {
-    decimal_length(v.unsigned_abs() as u64) + usize::from(v < 0)
+    decimal_length(u64::from(v.unsigned_abs())) + usize::from(v < 0)
 }
 
-// Copies bytes into a text, and answers the position after them.
+// Copies bytes into a text, and answers the position after them. A position goes in and comes back: a struct that held it would hold the lent text too,
+// and be lent again at each call.
 pub fn put_bytes(text: &mut [u8], at: usize, bytes: &[u8]) -> usize
     requires { at + length bytes.now ≤ length text.old }
     ensures { Put text.old at bytes.now text.new result }
@@ -52,8 +53,8 @@ pub fn put_decimal(text: &mut [u8], at: usize, n: u64) -> usize
     let mut left = n;
     for i in 0..others {
         text[at + i] = b'0' + ((left / power) as u8);
-        left = left % power;
-        power = power / 10;
+        left %= power;
+        power /= 10;
     }
     text[at + others] = b'0' + (left as u8);
     at + others + 1
@@ -64,7 +65,7 @@ pub fn put_number(text: &mut [u8], at: usize, v: i32) -> usize
     requires { at + length (number_text v) ≤ length text.old }
     ensures { Put text.old at (number_text v) text.new result }
 {
-    let n = v.unsigned_abs() as u64;
+    let n = u64::from(v.unsigned_abs());
     if v < 0 {
         text[at] = b'-';
         return put_decimal(text, at + 1, n);
@@ -78,7 +79,7 @@ fn grow(v: u64, b: u8) -> u64
     ensures { (result ≡ grown v b) × (result < 10000000000) }
 {
     if v < 1000000000 {
-        return v * 10 + ((b - b'0') as u64);
+        return v * 10 + u64::from(b - b'0');
     }
     v
 }
@@ -106,7 +107,7 @@ fn read_digits(text: &[u8], at: usize) -> Found<u64>
 fn signed(minus: bool, n: u64) -> Option<i32>
     ensures { SomeIff result (FitsSigned w32 (with_sign minus n)) (with_sign minus n) }
 {
-    let value = n as i128;
+    let value = i128::from(n);
     i32::try_from(if minus { -value } else { value }).ok()
 }
 

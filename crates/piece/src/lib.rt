@@ -82,7 +82,7 @@ fn read_fields(text: &[u8], at: usize, places: &mut [i32]) -> Option<usize>
 // The position after the line of a row, whose words go to the start of a table. Spare words stay as they are.
 pub fn read_line(text: &[u8], at: usize, table: &mut [i32]) -> Option<usize>
     requires at_in_bounds { at ≤ length text.now }
-    requires row_in_bounds { 12 ≤ length table.old }
+    requires room { 12 ≤ length table.old }
     ensures { ReadsLine text.now at table.old table.new result }
 {
     let name = read_name(text, at)?;

@@ -31,16 +31,14 @@ fn put_pair(out: &mut [u8], at: usize, first: u64, second: u64) -> usize
 
 // Writes the lines of a list's first products.
 fn put_products(out: &mut [u8], at: usize, list: &[u64], count: usize) -> usize
-    requires count_in_bounds { place_of count ≤ length list.now }
-    requires count_in_bounds_2 { at + 42 * count ≤ length out.old }
+    requires listed { place_of count ≤ length list.now }
+    requires room { at + 42 * count ≤ length out.old }
     ensures { Put out.old at (lines_to list.now count) out.new result }
 {
     let mut next = at;
-    let mut k = 0;
-    while k < count {
+    for k in 0..count {
         let c = layout::product_at(list, k);
         next = put_pair(out, next, c.plain, c.cuts);
-        k += 1;
     }
     next
 }

@@ -19,13 +19,14 @@ use Rattle.ground.proofs.Lists.{flat_map_append}
 use Rattle.ground.proofs.Pieces.{from_length, all_each, pieces_most}
 use Rattle.ground.proofs.Signed.{read}
 use Rattle.rules.specs.declared.Kind.{Kind}
+use Rattle.rules.specs.declared.Kind.TheVariants.{Box, Wedge, Drum, Union, Inter, Diff, Triangle}
 use Rattle.rules.specs.declared.Refusal.{Refusal}
 use Rattle.rules.specs.declared.Written.TheVariants as written
 use Rattle.rules.specs.Kinds.{named_words, kind_of}
 use Rattle.rules.specs.Outcome.{leave}
 use Rattle.rules.specs.Refusals.{refuse, room_refusal}
 use Rattle.rules.specs.Table.{most_rows, row_count, word_at, kind_at}
-use Rattle.rules.specs.Text.{decimal, kind_name, header_line, field_text, line_of, text_row_by, text_rows}
+use Rattle.rules.specs.Text.{decimal, number_text, kind_name, header_line, field_text, line_of, text_row_by, text_rows}
 use Rattle.rules.specs.TextCalls.{table_text, write_refusal, TextWritten}
 use Rattle.rules.specs.Told.{wrote, tell}
 use Rattle.rules.specs.Verdict.{table_refusal}
@@ -37,6 +38,17 @@ use Rattle.table.specs.declared.Named.{Named}
 use Rattle.table.specs.declared.Named.TheVariants as named
 use Rattle.table.specs.Reading.{named_by}
 use Rattle.writing.specs.Writing.{fields_to, line_as, row_text, line_at, lines_to}
+
+-- ---- a kind's name
+
+pub name_few : (k : Kind) → length (kind_name k) ≤ 5
+name_few Box = omega arith
+name_few Wedge = omega arith
+name_few Drum = omega arith
+name_few Union = omega arith
+name_few Inter = omega arith
+name_few Diff = omega arith
+name_few Triangle = omega arith
 
 -- ---- the fields of a row
 
@@ -58,6 +70,13 @@ module _ (t : List ℤ) (row : ℕ) where
       let ws : List ℤ = map (λ i. word_at t row (suc i)) (below n) in
       let size : length ws ≡ n = length-map (below n) (λ i. word_at t row (suc i)) ∙ from_length 0 n in
       omega (arith, pieces_most field_text 12 ws (all_each (λ v. length (field_text v) ≤ 12) (λ v. omega (arith, few_bytes v)) ws))
+
+  -- one field more, whose number was measured
+  pub one_longer : (k : ℕ) {size n : ℕ} {r : ℤ} → size ≡ length (fields_to t row k) → n ≡ length (number_text r) → r ≡ word_at t row (k + 1)
+      → size + (1 + n) ≡ length (fields_to t row (k + 1))
+  one_longer k {n = n} measured number word =
+      let own : n ≡ length (number_text (word_at t row (k + 1))) = number ∙ ap (λ (v : ℤ). length (number_text v)) word in
+      omega (arith, ap length (fields_grow k), length-append (fields_to t row k) (field_text (word_at t row (k + 1))), own)
 
   -- ---- its line: the name, the fields and the line feed
 

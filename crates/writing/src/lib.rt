@@ -7,7 +7,7 @@ ghost use Rattle.std.specs.Prelude.{◌+◌, ◌≤◌, ◌≡◌, length};
 ghost use Rattle.std.proofs.Math.Option.{none};
 ghost use Rattle.rules.specs.Kinds.{named_words};
 ghost use Rattle.rules.specs.Table.{most_rows, row_count};
-ghost use Rattle.rules.specs.Text.{kind_name, header_line, field_text};
+ghost use Rattle.rules.specs.Text.{header_line, field_text};
 ghost use Rattle.rules.specs.TextCalls.{table_text, TextWritten};
 ghost use Rattle.rules.specs.Verdict.{table_refusal};
 ghost use Rattle.number.specs.Writing.{Put};
@@ -16,36 +16,6 @@ ghost use Rattle.writing.specs.Writing.{fields_to, line_as, line_at, lines_to};
 
 use rules::{Checked, Kind, Refusal, Written};
 use table::Named;
-
-// How many bytes the name of a kind has.
-fn name_length(kind: Kind) -> usize
-    ensures { (result ≡ length (kind_name kind)) × (result ≤ 5) }
-{
-    match kind {
-        Kind::Box => 3,
-        Kind::Wedge => 5,
-        Kind::Drum => 4,
-        Kind::Union => 5,
-        Kind::Inter => 5,
-        Kind::Diff => 4,
-        Kind::Triangle => 3,
-    }
-}
-
-fn put_name(text: &mut [u8], at: usize, kind: Kind) -> usize
-    requires { at + length (kind_name kind) ≤ length text.old }
-    ensures { Put text.old at (kind_name kind) text.new result }
-{
-    match kind {
-        Kind::Box => number::put_bytes(text, at, b"box"),
-        Kind::Wedge => number::put_bytes(text, at, b"wedge"),
-        Kind::Drum => number::put_bytes(text, at, b"drum"),
-        Kind::Union => number::put_bytes(text, at, b"union"),
-        Kind::Inter => number::put_bytes(text, at, b"inter"),
-        Kind::Diff => number::put_bytes(text, at, b"diff"),
-        Kind::Triangle => number::put_bytes(text, at, b"tri"),
-    }
-}
 
 // A tab, and a number.
 fn put_field(text: &mut [u8], at: usize, v: i32) -> usize
@@ -62,26 +32,22 @@ fn fields_length(table: &[i32], row: usize, kind: Kind) -> usize
     ensures { result ≡ length (fields_to table.now row (named_words kind)) }
 {
     let words = table::named_words(kind);
-    let mut size: usize = 0;
-    let mut k: usize = 0;
-    while k < words {
+    let mut size = 0;
+    for k in 0..words {
         size += 1 + number::number_length(table::word(table, row, k + 1));
-        k += 1;
     }
     size
 }
 
 fn put_fields(text: &mut [u8], at: usize, table: &[i32], row: usize, kind: Kind) -> usize
     requires in_table { InTable table.now row }
-    requires kind_in_bounds { at + length (fields_to table.now row (named_words kind)) ≤ length text.old }
+    requires room { at + length (fields_to table.now row (named_words kind)) ≤ length text.old }
     ensures { Put text.old at (fields_to table.now row (named_words kind)) text.new result }
 {
     let words = table::named_words(kind);
     let mut next = at;
-    let mut k: usize = 0;
-    while k < words {
+    for k in 0..words {
         next = put_field(text, next, table::word(table, row, k + 1));
-        k += 1;
     }
     next
 }
@@ -94,24 +60,24 @@ fn row_length(table: &[i32], row: usize) -> usize
     let named = table::kind_of(table::word(table, row, 0));
     match named {
         Named::Unknown => 0,
-        Named::Known(kind) => name_length(kind) + fields_length(table, row, kind) + 1,
+        Named::Known(kind) => piece::kind_name(kind).len() + fields_length(table, row, kind) + 1,
     }
 }
 
 // The line of a row of that kind.
 fn put_line(text: &mut [u8], at: usize, table: &[i32], row: usize, kind: Kind) -> usize
     requires in_table { InTable table.now row }
-    requires kind_in_bounds { at + length (line_as table.now row kind) ≤ length text.old }
+    requires room { at + length (line_as table.now row kind) ≤ length text.old }
     ensures { Put text.old at (line_as table.now row kind) text.new result }
 {
-    let name = put_name(text, at, kind);
+    let name = number::put_bytes(text, at, piece::kind_name(kind));
     let fields = put_fields(text, name, table, row, kind);
     number::put_bytes(text, fields, b"\n")
 }
 
 fn put_row(text: &mut [u8], at: usize, table: &[i32], row: usize) -> usize
     requires in_table { InTable table.now row }
-    requires row_in_bounds { at + length (line_at table.now row) ≤ length text.old }
+    requires room { at + length (line_at table.now row) ≤ length text.old }
     ensures { Put text.old at (line_at table.now row) text.new result }
 {
     let named = table::kind_of(table::word(table, row, 0));
@@ -126,25 +92,21 @@ fn rows_length(table: &[i32], rows: usize) -> usize
     requires { (table_refusal table.now ≡ none) × (rows ≡ row_count table.now) }
     ensures { result ≡ length (lines_to table.now rows) }
 {
-    let mut size: usize = 0;
-    let mut row: usize = 0;
-    while row < rows {
+    let mut size = 0;
+    for row in 0..rows {
         size += row_length(table, row);
-        row += 1;
     }
     size
 }
 
 fn put_rows(text: &mut [u8], at: usize, table: &[i32], rows: usize) -> usize
-    requires table_value { (table_refusal table.now ≡ none) × (rows ≡ row_count table.now) }
-    requires rows_in_bounds { at + length (lines_to table.now rows) ≤ length text.old }
+    requires all_rows { (table_refusal table.now ≡ none) × (rows ≡ row_count table.now) }
+    requires room { at + length (lines_to table.now rows) ≤ length text.old }
     ensures { Put text.old at (lines_to table.now rows) text.new result }
 {
     let mut next = at;
-    let mut row: usize = 0;
-    while row < rows {
+    for row in 0..rows {
         next = put_row(text, next, table, row);
-        row += 1;
     }
     next
 }
@@ -152,7 +114,7 @@ fn put_rows(text: &mut [u8], at: usize, table: &[i32], rows: usize) -> usize
 // The first line: the name, a tab, the number of rows and the line feed.
 fn put_header(text: &mut [u8], rows: usize) -> usize
     requires rows_le_most_rows { rows ≤ most_rows }
-    requires rows_in_bounds { length (header_line rows) ≤ length text.old }
+    requires room { length (header_line rows) ≤ length text.old }
     ensures { Put text.old 0 (header_line rows) text.new result }
 {
     let name = number::put_bytes(text, 0, b"zone\t");
@@ -170,8 +132,8 @@ fn text_length(table: &[i32]) -> usize
 }
 
 fn put_text(text: &mut [u8], table: &[i32]) -> usize
-    requires table_value { table_refusal table.now ≡ none }
-    requires table_in_bounds { length (table_text table.now) ≤ length text.old }
+    requires sound { table_refusal table.now ≡ none }
+    requires room { length (table_text table.now) ≤ length text.old }
     ensures { Put text.old 0 (table_text table.now) text.new result }
 {
     let rows = table.len() / rules::ROW_WORDS;

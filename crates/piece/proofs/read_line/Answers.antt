@@ -11,8 +11,8 @@ returns c =
     let few = few_named c.in_ok-name.name.value in
     let named = c.named_words-named.ensures in
     let places = c.read_fields.auto.places
-    ∙ length-take-le _ _ (simp (length-drop, length-set) (omega (arith, c.requires.row_in_bounds, few, named))) in
+    ∙ length-take-le _ _ (simp (length-drop, length-set) (omega (arith, c.requires.room, few, named))) in
     let words = c.read_fields.new.places in
     line_read c.args.text.now c.args.at c.in_ok-name.ensures words (omega (arith, places, named)) c.in_ok-fields.ensures c.args.table.now _
     c.read_bytes.result c.read_bytes.ensures
-    (row_put c.args.table.now (word_0 c.in_ok-name.name.value) (omega (arith, c.requires.row_in_bounds, few, named, places)) refl (omega (arith, places)))
+    (row_put c.args.table.now (word_0 c.in_ok-name.name.value) (omega (arith, c.requires.room, few, named, places)) refl (omega (arith, places)))

@@ -6,6 +6,5 @@ use Rattle.reading.proofs.give.Goals as goal
 
 pub returns-in-Refused : goal.returns-in-Refused
 returns-in-Refused c =
-    let s = c.before.before in
-    let broken = stopped (table_refusal s.args.words.now) (sym c.in-Refused.is ∙ c.check-checked.ensures) in
-    given_table s.args.words.now s.args.table.now broken
+    let broken = stopped (table_refusal c.args.words.now) (sym c.in-Refused.is ∙ c.check-checked.ensures) in
+    given_table c.args.words.now c.args.table.now broken

@@ -1,36 +1,6 @@
-use native.Mathlib.Omega.{arith}
-use Rattle.number.proofs.Writing.{put_size, put_join}
-use Rattle.writing.proofs.Written.{line_size}
+use mathlib.Core.Path.{sym}
+use Rattle.number.proofs.Writing.{put_same, put_join}
 use Rattle.writing.proofs.put_line.Goals as goal
 
-pub put_name-name-requires : goal.put_name-name-requires
-put_name-name-requires c =
-    let s = c.before.before in
-    omega (arith, s.requires.kind_in_bounds, line_size s.args.table.now s.args.row s.args.kind)
-
-pub put_fields-fields-requires : goal.put_fields-fields-requires
-put_fields-fields-requires c =
-    let at_put_name = c.before.before.before in
-    let s = at_put_name.before.before.before in
-    let size = line_size s.args.table.now s.args.row s.args.kind in
-    let name = at_put_name.put_name-name.ensures in record { in_table = s.requires.in_table; kind_in_bounds = omega (arith, s.requires.kind_in_bounds, name.end, put_size name) }
-
-pub put_bytes-requires : goal.put_bytes-requires
-put_bytes-requires c =
-    let at_put_fields = c.before.before.before.before.before in
-    let at_put_name = at_put_fields.before.before.before.before in
-    let s = at_put_name.before.before.before in
-    let size = line_size s.args.table.now s.args.row s.args.kind in
-    let name = at_put_name.put_name-name.ensures in
-    let fields = at_put_fields.put_fields-fields.ensures in
-    omega (arith, s.requires.kind_in_bounds, name.end, put_size name, fields.end, put_size fields)
-
 pub returns : goal.returns
-returns c =
-    let at_put_bytes = c.before.before.before in
-    let at_text2 = at_put_bytes.before.before.before.before.before in
-    let at_put_fields = at_text2.before in
-    let at_put_name = at_put_fields.before.before.before.before in
-    let name = at_put_name.put_name-name.ensures in
-    let fields = at_put_fields.put_fields-fields.ensures in
-    put_join name (put_join fields at_put_bytes.put_bytes.ensures)
+returns c = put_join (put_same (sym c.kind_name.ensures) c.put_bytes-name.ensures) (put_join c.put_fields-fields.ensures c.put_bytes.ensures)

@@ -5,34 +5,17 @@ use Rattle.number.proofs.Writing.{put_same, put_none}
 use Rattle.writing.proofs.Written.{line_known, line_unknown}
 use Rattle.writing.proofs.put_row.Goals as goal
 
-pub put_line-requires : goal.put_line-requires
-put_line-requires c =
-    let at_kind_of = c.before.before in
-    let at_word = at_kind_of.before in
-    let s = at_word.before.before in
-    let word = at_word.word in
-    let kind = at_kind_of.kind_of-named in
-    let line = line_known s.args.table.now s.args.row word.type_inv word.ensures kind.ensures c.in-Known.is in record { in_table = s.requires.in_table; kind_in_bounds = omega (arith, s.requires.row_in_bounds, ap length line) }
+pub put_line-requires-clause-room : goal.put_line-requires-clause-room
+put_line-requires-clause-room c =
+    let line = line_known c.args.table.now c.args.row c.word.type_inv c.word.ensures c.kind_of-named.ensures c.in-Known.is in
+    omega (arith, c.requires.room, ap length line)
 
 pub returns-in-Unknown : goal.returns-in-Unknown
 returns-in-Unknown c =
-    let at_word = c.before.before.before in
-    let s = at_word.before.before in
-    let s = s.args in
-    let word = at_word.word in
-    let line = line_unknown s.table.now s.row word.type_inv word.ensures c.kind_of-named.ensures c.in-Unknown.is in
-    put_same line (put_none s.text.now s.at)
+    let line = line_unknown c.args.table.now c.args.row c.word.type_inv c.word.ensures c.kind_of-named.ensures c.in-Unknown.is in
+    put_same line (put_none c.args.text.now c.args.at)
 
 pub returns-in-Known : goal.returns-in-Known
 returns-in-Known c =
-    let at_put_line = c.before.before.before in
-    let at_named = at_put_line.before.before in
-    let at_kind_of = at_named.before in
-    let at_word = at_kind_of.before in
-    let s = at_word.before.before in
-    let s = s.args in
-    let word = at_word.word in
-    let kind = at_kind_of.kind_of-named in
-    let known = at_named.in-Known.is in
-    let line = line_known s.table.now s.row word.type_inv word.ensures kind.ensures known in
-    put_same line at_put_line.put_line.ensures
+    let line = line_known c.args.table.now c.args.row c.word.type_inv c.word.ensures c.kind_of-named.ensures c.in-Known.is in
+    put_same line c.put_line.ensures

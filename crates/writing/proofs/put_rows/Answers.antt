@@ -1,10 +1,7 @@
 use native.Mathlib.Omega.{arith}
 use mathlib.Core.List.{flat_map}
-use mathlib.Core.Path.{◌≡◌, ap}
 use Rattle.ground.specs.Lists.{from}
-use Rattle.laws.proofs.Soundness.{table_sound}
-use Rattle.number.proofs.Writing.{put_same, put_none, put_size}
-use Rattle.table.proofs.Rows.{row_there}
+use Rattle.number.proofs.Writing.{put_none, put_size}
 use Rattle.writing.specs.Writing.{line_at, lines_to}
 use Rattle.writing.proofs.Writes.{piece_fits, put_next}
 use Rattle.writing.proofs.Written.{lines_grow}
@@ -12,33 +9,16 @@ use Rattle.writing.proofs.put_rows.Goals as goal
 
 pub loop-row-init : goal.loop-row-init
 unfolding lines_to from flat_map
-loop-row-init c = (omega arith, put_none c.args.text.now c.args.at)
+loop-row-init c = put_none c.args.text.now c.args.at
 
-pub put_row-next-requires : goal.put_row-next-requires
-put_row-next-requires c =
-    let s = c.before.before.before.before in
-    let t = s.args.table.now in
+pub put_row-next-requires-clause-room : goal.put_row-next-requires-clause-room
+put_row-next-requires-clause-room c =
+    let t = c.args.table.now in
     let l = c.loop-row in
-    let there = (row_there {row = l.row} (table_sound t s.requires.table_value.0) (omega (arith, s.requires.table_value.1))).0 in
-    let part = piece_fits (lines_to t) (line_at t) (lines_grow t) l.row s.args.rows (omega arith) in record { in_table = there; row_in_bounds = omega (arith, s.requires.rows_in_bounds, l.invariant.1.end, put_size l.invariant.1) }
-
-pub overflow_add-row : goal.overflow_add-row
-overflow_add-row c = omega arith
-
-pub loop-row-smaller : goal.loop-row-smaller
-loop-row-smaller c = omega arith
+    let part = piece_fits (lines_to t) (line_at t) (lines_grow t) l.row c.args.rows (omega arith) in
+    omega (arith, c.requires.room, l.invariant.end, put_size l.invariant)
 
 pub loop-row-preserved : goal.loop-row-preserved
 loop-row-preserved c =
-    let at_put_row = c.before.before.before in
-    let at_loop = at_put_row.before.before.before in
-    let t = at_loop.args.table.now in
-    let l = at_loop.loop-row in
-    (omega arith, put_next (lines_to t) (line_at t) (lines_grow t) l.row l.invariant.1 at_put_row.put_row-next.ensures)
-
-pub returns : goal.returns
-returns c =
-    let s = c.args in
-    let l = c.loop-row in
-    let all : s.rows ≡ l.row = omega arith in
-    put_same (ap (lines_to s.table.now) all) l.invariant.1
+    let t = c.args.table.now in
+    put_next (lines_to t) (line_at t) (lines_grow t) c.loop-row.row c.loop-row.invariant c.put_row-next.ensures

@@ -1,10 +1,6 @@
-use Prim.Native.Nat.{◌-◌, ◌≤◌}
 use Rattle.number.specs.Writing.{Put}
 use Rattle.writing.specs.Writing.{lines_to}
 use Rattle.writing.proofs.put_rows.Given as goal
 
 abbrev pub invariant-loop-row : goal.invariant-loop-row
-invariant-loop-row l = (l.row ≤ l.rows) × Put l.initial.text l.at (lines_to l.table l.row) l.text l.next
-
-abbrev pub decreases-loop-row : goal.decreases-loop-row
-decreases-loop-row l = l.rows - l.row
+invariant-loop-row l = Put l.initial.text l.at (lines_to l.table l.row) l.text l.next

@@ -1,48 +1,29 @@
-use Prim.Native.Nat.{◌≤◌}
 use native.Mathlib.Omega.{arith}
 use mathlib.Core.Path.{sym, ap}
 use lib.ListN.{length}
 use Rattle.rules.specs.Kinds.{named_words}
 use Rattle.laws.proofs.TextLengths.{few_named}
-use Rattle.writing.proofs.Written.{fields_few, line_size, line_known, line_unknown}
-use Rattle.writing.proofs.row_length.Lts as lts
-use Rattle.writing.proofs.row_length.Tie as tie
-use Rattle.writing.proofs.row_length.Reads as reads
+use Rattle.writing.proofs.Written.{fields_few, name_few, line_size, line_known, line_unknown}
 use Rattle.writing.proofs.row_length.Goals as goal
 
-abbrev After-fields_length : Type 0
-After-fields_length = lts.After-fields_length tie.the-claims reads.Pre reads.Post
-
--- a row has at most 10 fields, of at most 12 bytes each
-few : (c : After-fields_length) → c.fields_length.result ≤ 120
-few c =
-    let at_named = c.before.before in
-    let s = at_named.before.before.before in
-    let s = s.args in
-    let kind = at_named.in-Known.kind in
-    omega (arith, c.fields_length.ensures, fields_few s.table.now s.row (named_words kind), few_named kind)
-
 pub overflow_add-result : goal.overflow_add-result
-overflow_add-result c = omega (arith, few c, c.name_length.ensures.1)
+overflow_add-result c =
+    let kind = c.in-Known.kind in
+    let fields = fields_few c.args.table.now c.args.row (named_words kind) in
+    record { fits = omega (arith, ap length c.kind_name.ensures, name_few kind, c.fields_length.ensures, fields, few_named kind) }
 
 pub overflow_add-result-in-Known : goal.overflow_add-result-in-Known
-overflow_add-result-in-Known c = omega (arith, few c, c.name_length.ensures.1)
+overflow_add-result-in-Known c =
+    let kind = c.in-Known.kind in
+    let fields = fields_few c.args.table.now c.args.row (named_words kind) in
+    record { fits = omega (arith, ap length c.kind_name.ensures, name_few kind, c.fields_length.ensures, fields, few_named kind) }
 
 pub returns-in-Unknown : goal.returns-in-Unknown
 returns-in-Unknown c =
-    let s = c.args in
-    let word = c.word in
-    sym (ap length (line_unknown s.table.now s.row word.type_inv word.ensures c.kind_of-named.ensures c.in-Unknown.is))
+    sym (ap length (line_unknown c.args.table.now c.args.row c.word.type_inv c.word.ensures c.kind_of-named.ensures c.in-Unknown.is))
 
 pub returns-in-Known : goal.returns-in-Known
 returns-in-Known c =
-    let at_named = c.before.before in
-    let at_kind_of = at_named.before in
-    let at_word = at_kind_of.before in
-    let s = at_word.before in
-    let s = s.args in
-    let word = at_word.word in
-    let kind = at_kind_of.kind_of-named in
-    let line = line_known s.table.now s.row word.type_inv word.ensures kind.ensures at_named.in-Known.is in
-    let size = line_size s.table.now s.row at_named.in-Known.kind in
-    omega (arith, ap length line, c.name_length.ensures.0, c.fields_length.ensures)
+    let t = c.args.table.now in
+    let line = line_known t c.args.row c.word.type_inv c.word.ensures c.kind_of-named.ensures c.in-Known.is in
+    omega (arith, ap length line, line_size t c.args.row c.in-Known.kind, ap length c.kind_name.ensures, c.fields_length.ensures)

@@ -3,14 +3,7 @@ use Rattle.writing.proofs.Written.{refused_room, text_written}
 use Rattle.writing.proofs.write_sound.Goals as goal
 
 pub returns-then-text-needed : goal.returns-then-text-needed
-returns-then-text-needed c =
-    let s = c.before.before.before.before in
-    refused_room s.args.table.now s.args.text.now s.requires c.text_length-needed.ensures c.if-text-needed.true
+returns-then-text-needed c = refused_room c.args.table.now c.args.text.now c.requires c.text_length-needed.ensures c.if-text-needed.true
 
 pub returns : goal.returns
-returns c =
-    let at_put_text = c.before.before.before in
-    let at_text_length = at_put_text.before.before.before in
-    let s = at_text_length.before.before in
-    let needed = at_text_length.text_length-needed in
-    text_written s.args.table.now s.args.text.now s.requires (omega (arith, needed.ensures)) at_put_text.put_text.ensures
+returns c = text_written c.args.table.now c.args.text.now c.requires (omega (arith, c.text_length-needed.ensures)) c.put_text.ensures

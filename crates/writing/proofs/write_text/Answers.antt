@@ -1,20 +1,10 @@
 use mathlib.Core.Path.{sym, ◌∙◌}
 use Rattle.rules.specs.Verdict.{table_refusal}
-use Rattle.laws.proofs.Telling.{went_on, stopped}
+use Rattle.laws.proofs.Telling.{stopped}
 use Rattle.writing.proofs.Written.{refused_table}
 use Rattle.writing.proofs.write_text.Goals as goal
 
-pub write_sound-requires : goal.write_sound-requires
-write_sound-requires c =
-    let at_check = c.before.before in
-    let s = at_check.before.before in
-    let s = s.args in
-    went_on (table_refusal s.table.now) (sym c.in-Sound.is ∙ at_check.check-checked.ensures)
-
 pub returns-in-Refused : goal.returns-in-Refused
 returns-in-Refused c =
-    let at_check = c.before.before in
-    let s = at_check.before.before in
-    let s = s.args in
-    let found = stopped (table_refusal s.table.now) (sym c.in-Refused.is ∙ at_check.check-checked.ensures) in
-    refused_table s.table.now s.text.now found
+    let found = stopped (table_refusal c.args.table.now) (sym c.in-Refused.is ∙ c.check-checked.ensures) in
+    refused_table c.args.table.now c.args.text.now found
