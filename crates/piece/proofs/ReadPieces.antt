@@ -12,7 +12,7 @@ use lib.Seq.{drop-drop, drop-cons, drop-append_seam, take-suc, take-suc-set, tak
 use borrow.Rule.Slice.PartMut.{put_mid}
 use denote.Enum.Declared.{tag_of}
 use mir.Syntax.{w32}
-use mir.Val.{to_z}
+use mir.Val.{to_z, of_z}
 use Rattle.std.specs.Bool.{then_some}
 use Rattle.std.specs.List.{starts_with}
 use Rattle.std.specs.Int.{FitsUnsignedBits}
@@ -76,14 +76,18 @@ Bytes bytes text at next = There {A = Unit {0}} Any (λ u. bytes) Any text at tt
 
 -- ---- the words of a row
 
-pub word_0 : (k : Kind) → to_z w32 (tag_of the_type k) ≡ pos (kind_number k)
-word_0 Box = refl
-word_0 Wedge = refl
-word_0 Drum = refl
-word_0 Union = refl
-word_0 Inter = refl
-word_0 Diff = refl
-word_0 Triangle = refl
+-- a kind's number as it is read back
+pub word_0 : (k : Kind) {n : ℤ} → n ≡ pos (kind_number k) → to_z w32 (of_z w32 n) ≡ pos (kind_number k)
+word_0 k e = ap (λ (z : ℤ). to_z w32 (of_z w32 z)) e ∙ back k
+  where
+    back : (k : Kind) → to_z w32 (of_z w32 (pos (kind_number k))) ≡ pos (kind_number k)
+    back Box = refl
+    back Wedge = refl
+    back Drum = refl
+    back Union = refl
+    back Inter = refl
+    back Diff = refl
+    back Triangle = refl
 
 -- word 0, and the others after it
 pub row_put : {n m : ℤ} (table : List ℤ) {words part : List ℤ} {size : ℕ} → n ≡ m → 1 + length words ≤ length table → part ≡ words → size ≡ length words

@@ -86,8 +86,8 @@ pub fn read_line(text: &[u8], at: usize, table: &mut [i32]) -> Option<usize>
     ensures { ReadsLine text.now at table.old table.new result }
 {
     let name = read_name(text, at)?;
-    let named = table::named_words(name.value);
-    table[0] = name.value as i32;
+    let named = name.value.named_words();
+    table[0] = name.value.number();
     let fields = read_fields(text, name.next, &mut table[1..1 + named])?;
     read_bytes(text, fields, b"\n")
 }

@@ -11,8 +11,7 @@ use Rattle.std.specs.Option.{ok_or}
 use Rattle.std.specs.Prelude.{Option, None, Some, Ok, Err, MatchOption}
 use Rattle.ground.specs.Lists.{first_of}
 use Rattle.rules.specs.declared.Refusal.{Refusal}
-use Rattle.rules.specs.declared.Written.{Written}
-use Rattle.rules.specs.declared.Written.TheVariants.{Wrote, Refused}
+use Rattle.rules.specs.declared.Rule.TheVariants as rule
 use Rattle.rules.specs.Outcome.{over}
 use Rattle.rules.specs.Table.{row_words, most_rows}
 use Rattle.rules.specs.Text.{table_of}
@@ -20,6 +19,7 @@ use Rattle.rules.specs.TextCalls.{TextRead}
 use Rattle.rules.specs.TextForm.{most_bytes, lines_of, FirstFault, too_long, faulty, spelt}
 use Rattle.rules.specs.Verdict.{table_refusal}
 use Rattle.reading.specs.Reading.{SpeltOut, Given}
+use Rattle.rules.specs.Told.{Written}
 
 -- ---- an answer that an error takes the place of, where there is none
 
@@ -34,28 +34,28 @@ told_on P Q d (Some y) {x} h q = let same : y ≡ x = cc in subst Q same q
 -- ---- the words that were read
 
 module _ (words before : List ℤ) where
-  pub given_table : {r : Refusal} → table_refusal words ≡ some r → Given words before before (Refused r)
+  pub given_table : {r : Refusal} → table_refusal words ≡ some r → Given words before before (Err r)
   unfolding first_of
   given_table h = record { answer = rw h; buffer = rw h }
 
   module _ (h : table_refusal words ≡ none) where
-    pub given_room : length before < length words → Given words before before (Refused (record { number = 8; value = length words }))
+    pub given_room : length before < length words → Given words before before (Err (record { rule = rule.Room; value = length words }))
     unfolding first_of
     given_room l = record { answer = rw (h, lt-leb (length words) (length before) l); buffer = rw (h, lt-leb (length words) (length before) l) }
 
-    pub given_fine : length words ≤ length before → {after : List ℤ} → after ≡ over words before → Given words before after (Wrote (length words))
+    pub given_fine : length words ≤ length before → {after : List ℤ} → after ≡ over words before → Given words before after (Ok (length words))
     unfolding first_of
     given_fine l e = record { answer = rw (h, le-leb (length words) (length before) l); buffer = rw (h, le-leb (length words) (length before) l) e }
 
 -- ---- the text
 
 module _ {text : List ℕ} (before : List ℤ) where
-  pub read_long : most_bytes < length text → TextRead text before before (Refused (record { number = 13; value = 0 }))
+  pub read_long : most_bytes < length text → TextRead text before before (Err (record { rule = rule.Text; value = 0 }))
   unfolding first_of
   read_long l = record { form = too_long l; answer = refl; buffer = refl }
 
   module _ (short : length text ≤ most_bytes) where
-    pub read_faulty : {line : ℕ} → FirstFault (lines_of text) line → TextRead text before before (Refused (record { number = 13; value = line }))
+    pub read_faulty : {line : ℕ} → FirstFault (lines_of text) line → TextRead text before before (Err (record { rule = rule.Text; value = line }))
     unfolding first_of
     read_faulty {line} fault = record { form = faulty line short fault; answer = refl; buffer = refl }
 

@@ -4,13 +4,12 @@ use mathlib.Core.List.{List, [], ◌∷◌, ◌++◌, flat_map}
 use Rattle.std.proofs.Math.Option.{Option}
 use Rattle.ground.specs.Lists.{All, first_of}
 use Rattle.rules.specs.declared.Refusal.{Refusal}
-use Rattle.rules.specs.declared.Written.{Written}
 use Rattle.rules.specs.Table.{row_words, most_rows}
 use Rattle.rules.specs.Text.{TextRow, header_line, line_of, text_of, table_of}
 use Rattle.rules.specs.TextForm.{lines_of, RightRow, FirstFault}
 use Rattle.rules.specs.Verdict.{table_refusal}
 use Rattle.rules.specs.Refusals.{room_refusal}
-use Rattle.rules.specs.Told.{wrote, tell, told_written}
+use Rattle.rules.specs.Told.{Written, wrote, tell, told_written}
 use Rattle.rules.specs.Outcome.{leave}
 use Rattle.piece.specs.Pieces.{Stood, RightCount}
 use Rattle.reading.specs.declared.FaultyLine.{FaultyLine}

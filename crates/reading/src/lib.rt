@@ -4,16 +4,25 @@
 
 ghost use Rattle.std.specs.Prelude.{◌≡◌, pos, replicate};
 ghost use Rattle.std.proofs.Math.Option.{none};
+ghost use Rattle.rules.specs.declared.Rule.TheVariants.{Text};
 ghost use Rattle.rules.specs.Verdict.{table_refusal};
 ghost use Rattle.rules.specs.TextCalls.{TextRead};
 ghost use Rattle.piece.specs.Pieces.{RightCount};
 ghost use Rattle.reading.specs.Reading.{Begun, FormRead, Given};
 
-use rules::{Checked, Refusal, Written};
+use rules::{Refusal, Rule};
 
 // The first line at which a text breaks its form.
 #[derive(Clone, Copy, Debug, PartialEq, Eq)]
 pub struct FaultyLine(pub usize);
+
+impl From<FaultyLine> for Refusal {
+    ghost from_gives = { λ fault r. r ≡ record { rule = Text; value = fault.0 } };
+
+    fn from(fault: FaultyLine) -> Self {
+        Refusal::new(Rule::Text, fault.0)
+    }
+}
 
 // The rows after the header, into a table of zeros: so many, if nothing follows the last one.
 fn read_rows(text: &[u8], start: usize, table: &mut [i32], rows: usize) -> Result<usize, FaultyLine>
@@ -42,48 +51,34 @@ fn read_form(text: &[u8], table: &mut [i32]) -> Result<usize, FaultyLine>
 }
 
 // A table without a fault: the room, then the words.
-fn give_sound(words: &[i32], table: &mut [i32]) -> Written
+fn give_sound(words: &[i32], table: &mut [i32]) -> Result<usize, Refusal>
     requires { table_refusal words.now ≡ none }
     ensures { Given words.now table.old table.new result }
 {
     let needed = words.len();
     if table.len() < needed {
-        return Written::Refused(Refusal {
-            number: 8,
-            value: needed as u64,
-        });
+        return Err(Refusal::new(Rule::Room, needed));
     }
     table[..needed].copy_from_slice(words);
-    Written::Wrote(needed)
+    Ok(needed)
 }
 
 // The table that a text spells: its faults, then the room, then the words.
-fn give(words: &[i32], table: &mut [i32]) -> Written
+fn give(words: &[i32], table: &mut [i32]) -> Result<usize, Refusal>
     ensures { Given words.now table.old table.new result }
 {
-    let checked = table::check(words);
-    match checked {
-        Checked::Refused(refusal) => Written::Refused(refusal),
-        Checked::Sound => give_sound(words, table),
-    }
+    table::check(words)?;
+    give_sound(words, table)
 }
 
 // The text is read into 127 rows of its own first: the lent table stays as it was until nothing is left to refuse.
-pub fn read_text(text: &[u8], table: &mut [i32]) -> Written
+pub fn read_text(text: &[u8], table: &mut [i32]) -> Result<usize, Refusal>
     ensures { TextRead text.now table.old table.new result }
 {
     if rules::MOST_BYTES < text.len() {
-        return Written::Refused(Refusal {
-            number: 13,
-            value: 0,
-        });
+        return Err(Refusal::new(Rule::Text, 0));
     }
     let mut words: [i32; 1524] = [0; 1524];
-    match read_form(text, &mut words) {
-        Err(fault) => Written::Refused(Refusal {
-            number: 13,
-            value: fault.0 as u64,
-        }),
-        Ok(rows) => give(&words[..rows * rules::ROW_WORDS], table),
-    }
+    let rows = read_form(text, &mut words)?;
+    give(&words[..rows * rules::ROW_WORDS], table)
 }

@@ -1,4 +1,5 @@
 -- The text of a table in its parts, and what writing it answers. Assumes nothing.
+use Rattle.std.specs.Prelude.{Ok, Err}
 use Prim.Native.Nat.{ℕ, suc, ◌+◌, ◌*◌, ◌^◌, ◌≤◌, ◌<◌}
 use native.Mathlib.Nat.{zero-add}
 use native.Mathlib.Numerals.{add-one}
@@ -21,7 +22,7 @@ use Rattle.ground.proofs.Signed.{read}
 use Rattle.rules.specs.declared.Kind.{Kind}
 use Rattle.rules.specs.declared.Kind.TheVariants.{Box, Wedge, Drum, Union, Inter, Diff, Triangle}
 use Rattle.rules.specs.declared.Refusal.{Refusal}
-use Rattle.rules.specs.declared.Written.TheVariants as written
+use Rattle.rules.specs.declared.Rule.TheVariants.{Room}
 use Rattle.rules.specs.Kinds.{named_words, kind_of}
 use Rattle.rules.specs.Outcome.{leave}
 use Rattle.rules.specs.Refusals.{refuse, room_refusal}
@@ -34,9 +35,6 @@ use Rattle.laws.proofs.Texts.{rows_count, write_fine}
 use Rattle.rules.specs.Listing.{word_text}
 use Rattle.number.specs.Writing.{Put}
 use Rattle.number.proofs.Digits.{few_bytes, long_decimal}
-use Rattle.table.specs.declared.Named.{Named}
-use Rattle.table.specs.declared.Named.TheVariants as named
-use Rattle.table.specs.Reading.{named_by}
 use Rattle.writing.specs.Writing.{fields_to, line_as, row_text, line_at, lines_to}
 
 -- ---- a kind's name
@@ -84,25 +82,18 @@ module _ (t : List ℤ) (row : ℕ) where
   line_size k = simp length-append
 
   -- by the kind n that was read from its word 0
-  module _ {r : ℤ} {n : Named} (fits : mag r < 2 ^ hbits w32) (word : r ≡ word_at t row 0) (reads : n ≡ named_by (kind_of (to_z w32 (of_z w32 r)))) where
-    is : n ≡ named_by (kind_at t row)
-    is = reads ∙ ap (λ (z : ℤ). named_by (kind_of z)) (read w32 fits word)
+  -- by what word 0 names, as it was read
+  module _ {r : ℤ} (fits : mag r < 2 ^ hbits w32) (word : r ≡ word_at t row 0) where
+    same : kind_of (to_z w32 (of_z w32 r)) ≡ kind_at t row
+    same = ap kind_of (read w32 fits word)
 
-    pub line_known : {k : Kind} → n ≡ named.Known k → line_at t row ≡ line_as t row k
+    pub line_known : {k : Kind} → kind_of (to_z w32 (of_z w32 r)) ≡ some k → line_at t row ≡ line_as t row k
     unfolding line_at fields_to flat_map
-    line_known {k} e = go (kind_at t row) (sym e ∙ is)
-      where
-        go : (x : Option Kind) → named.Known k ≡ named_by x → flat_map line_of (text_row_by x (word_at t row)) ≡ line_as t row k
-        go none h = cc
-        go (some j) h = let s : j ≡ k = cc in append-nil _ ∙ ap (line_as t row) s
+    line_known {k} e = rw (sym same ∙ e) (append-nil _)
 
-    pub line_unknown : n ≡ named.Unknown → line_at t row ≡ []
+    pub line_unknown : kind_of (to_z w32 (of_z w32 r)) ≡ none → line_at t row ≡ []
     unfolding line_at flat_map
-    line_unknown e = go (kind_at t row) (sym e ∙ is)
-      where
-        go : (x : Option Kind) → named.Unknown ≡ named_by x → flat_map line_of (text_row_by x (word_at t row)) ≡ []
-        go none h = refl
-        go (some k) h = cc
+    line_unknown e = rw (sym same ∙ e)
 
 -- ---- the lines of a table
 
@@ -132,26 +123,26 @@ module _ (t : List ℤ) (kept : table_refusal t ≡ none) where
 -- ---- what is answered, by the rules that were kept or broken on the way
 
 module _ (t : List ℤ) (before : List ℕ) where
-  refused_by : {r : Refusal} → write_refusal t (length before) ≡ some r → TextWritten t before before (written.Refused r)
+  refused_by : {r : Refusal} → write_refusal t (length before) ≡ some r → TextWritten t before before (Err r)
   refused_by h = record {
     answer = sym (ap (λ (x : Option Refusal). tell x (wrote (length (table_text t)))) h);
     buffer = sym (ap (λ (x : Option Refusal). leave x (table_text t) before) h);
   }
 
-  pub refused_table : {r : Refusal} → table_refusal t ≡ some r → TextWritten t before before (written.Refused r)
+  pub refused_table : {r : Refusal} → table_refusal t ≡ some r → TextWritten t before before (Err r)
   unfolding first_of
   refused_table h = refused_by (rw h)
 
   module _ (kept : table_refusal t ≡ none) where
     pub refused_room : {needed : ℕ} → needed ≡ length (table_text t) → length before < needed
-        → TextWritten t before before (written.Refused (record { number = 8; value = needed }))
+        → TextWritten t before before (Err (record { rule = Room; value = needed }))
     unfolding first_of
     refused_room {needed} exact short =
-        let tight : room_refusal needed (length before) ≡ refuse 8 needed = rw (lt-leb needed (length before) short) in
+        let tight : room_refusal needed (length before) ≡ refuse Room needed = rw (lt-leb needed (length before) short) in
         refused_by (rw (kept, ← exact, tight))
 
     pub text_written : {after : List ℕ} {next : ℕ} → length (table_text t) ≤ length before → Put before 0 (table_text t) after next
-        → TextWritten t before after (written.Wrote next)
+        → TextWritten t before after (Ok next)
     text_written room p =
         let bytes = table_text t in
         let fine = write_fine t (length before) kept room in

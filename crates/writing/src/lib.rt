@@ -14,8 +14,7 @@ ghost use Rattle.number.specs.Writing.{Put};
 ghost use Rattle.table.specs.Reading.{InTable};
 ghost use Rattle.writing.specs.Writing.{fields_to, line_as, line_at, lines_to};
 
-use rules::{Checked, Kind, Refusal, Written};
-use table::Named;
+use rules::{Kind, Refusal, Rule};
 
 // A tab, and a number.
 fn put_field(text: &mut [u8], at: usize, v: i32) -> usize
@@ -31,7 +30,7 @@ fn fields_length(table: &[i32], row: usize, kind: Kind) -> usize
     requires { InTable table.now row }
     ensures { result ≡ length (fields_to table.now row (named_words kind)) }
 {
-    let words = table::named_words(kind);
+    let words = kind.named_words();
     let mut size = 0;
     for k in 0..words {
         size += 1 + number::number_length(table::word(table, row, k + 1));
@@ -44,7 +43,7 @@ fn put_fields(text: &mut [u8], at: usize, table: &[i32], row: usize, kind: Kind)
     requires room { at + length (fields_to table.now row (named_words kind)) ≤ length text.old }
     ensures { Put text.old at (fields_to table.now row (named_words kind)) text.new result }
 {
-    let words = table::named_words(kind);
+    let words = kind.named_words();
     let mut next = at;
     for k in 0..words {
         next = put_field(text, next, table::word(table, row, k + 1));
@@ -57,10 +56,9 @@ fn row_length(table: &[i32], row: usize) -> usize
     requires { InTable table.now row }
     ensures { result ≡ length (line_at table.now row) }
 {
-    let named = table::kind_of(table::word(table, row, 0));
-    match named {
-        Named::Unknown => 0,
-        Named::Known(kind) => piece::kind_name(kind).len() + fields_length(table, row, kind) + 1,
+    match Kind::try_from(table::word(table, row, 0)) {
+        Ok(kind) => piece::kind_name(kind).len() + fields_length(table, row, kind) + 1,
+        Err(_) => 0,
     }
 }
 
@@ -80,10 +78,9 @@ fn put_row(text: &mut [u8], at: usize, table: &[i32], row: usize) -> usize
     requires room { at + length (line_at table.now row) ≤ length text.old }
     ensures { Put text.old at (line_at table.now row) text.new result }
 {
-    let named = table::kind_of(table::word(table, row, 0));
-    match named {
-        Named::Unknown => at,
-        Named::Known(kind) => put_line(text, at, table, row, kind),
+    match Kind::try_from(table::word(table, row, 0)) {
+        Ok(kind) => put_line(text, at, table, row, kind),
+        Err(_) => at,
     }
 }
 
@@ -142,26 +139,20 @@ fn put_text(text: &mut [u8], table: &[i32]) -> usize
 }
 
 // The table is sound: the room, then the text.
-fn write_sound(table: &[i32], text: &mut [u8]) -> Written
+fn write_sound(table: &[i32], text: &mut [u8]) -> Result<usize, Refusal>
     requires { table_refusal table.now ≡ none }
     ensures { TextWritten table.now text.old text.new result }
 {
     let needed = text_length(table);
     if text.len() < needed {
-        return Written::Refused(Refusal {
-            number: 8,
-            value: needed as u64,
-        });
+        return Err(Refusal::new(Rule::Room, needed));
     }
-    Written::Wrote(put_text(text, table))
+    Ok(put_text(text, table))
 }
 
-pub fn write_text(table: &[i32], text: &mut [u8]) -> Written
+pub fn write_text(table: &[i32], text: &mut [u8]) -> Result<usize, Refusal>
     ensures { TextWritten table.now text.old text.new result }
 {
-    let checked = table::check(table);
-    match checked {
-        Checked::Refused(refusal) => Written::Refused(refusal),
-        Checked::Sound => write_sound(table, text),
-    }
+    table::check(table)?;
+    write_sound(table, text)
 }

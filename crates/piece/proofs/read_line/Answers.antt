@@ -15,4 +15,4 @@ returns c =
     let words = c.read_fields.new.places in
     line_read c.args.text.now c.args.at c.in_ok-name.ensures words (omega (arith, places, named)) c.in_ok-fields.ensures c.args.table.now _
     c.read_bytes.result c.read_bytes.ensures
-    (row_put c.args.table.now (word_0 c.in_ok-name.name.value) (omega (arith, c.requires.room, few, named, places)) refl (omega (arith, places)))
+    (row_put c.args.table.now (word_0 c.in_ok-name.name.value c.number.ensures) (omega (arith, c.requires.room, few, named, places)) refl (omega (arith, places)))

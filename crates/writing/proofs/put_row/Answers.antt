@@ -7,15 +7,15 @@ use Rattle.writing.proofs.put_row.Goals as goal
 
 pub put_line-requires-clause-room : goal.put_line-requires-clause-room
 put_line-requires-clause-room c =
-    let line = line_known c.args.table.now c.args.row c.word.type_inv c.word.ensures c.kind_of-named.ensures c.in-Known.is in
+    let line = line_known c.args.table.now c.args.row c.word.type_inv c.word.ensures c.in-Ok.ensures in
     omega (arith, c.requires.room, ap length line)
 
-pub returns-in-Unknown : goal.returns-in-Unknown
-returns-in-Unknown c =
-    let line = line_unknown c.args.table.now c.args.row c.word.type_inv c.word.ensures c.kind_of-named.ensures c.in-Unknown.is in
+pub returns-in-Err : goal.returns-in-Err
+returns-in-Err c =
+    let line = line_unknown c.args.table.now c.args.row c.word.type_inv c.word.ensures c.in-Err.ensures in
     put_same line (put_none c.args.text.now c.args.at)
 
-pub returns-in-Known : goal.returns-in-Known
-returns-in-Known c =
-    let line = line_known c.args.table.now c.args.row c.word.type_inv c.word.ensures c.kind_of-named.ensures c.in-Known.is in
+pub returns-in-Ok : goal.returns-in-Ok
+returns-in-Ok c =
+    let line = line_known c.args.table.now c.args.row c.word.type_inv c.word.ensures c.in-Ok.ensures in
     put_same line c.put_line.ensures
