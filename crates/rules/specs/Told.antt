@@ -46,23 +46,34 @@ refused_by number value = record { number = number; tale = refusal value }
 abbrev pub refused : Refusal → Told
 refused r = refused_by (number_of r.rule) r.value
 
+-- what an answer tells where nothing is refused
+abbrev pub checked_tale : ⊤ → Tale
+checked_tale _ = sound
+
+abbrev pub located_tale : Bool → Tale
+located_tale true = inside
+located_tale false = outside
+
+abbrev pub searched_tale : prelude.Option Hit → Tale
+searched_tale None = clear
+searched_tale (Some found) = hit found.first found.count
+
+-- and where there may be a refusal
+abbrev pub told_by : {A : Type 0} → (A → Tale) → Result A Refusal → Told
+told_by tale (Ok x) = fine (tale x)
+told_by tale (Err r) = refused r
+
 abbrev pub told_checked : Checked → Told
-told_checked (Ok _) = fine sound
-told_checked (Err r) = refused r
+told_checked = told_by checked_tale
 
 abbrev pub told_located : Located → Told
-told_located (Ok true) = fine inside
-told_located (Ok false) = fine outside
-told_located (Err r) = refused r
+told_located = told_by located_tale
 
 abbrev pub told_searched : Searched → Told
-told_searched (Ok None) = fine clear
-told_searched (Ok (Some found)) = fine (hit found.first found.count)
-told_searched (Err r) = refused r
+told_searched = told_by searched_tale
 
 abbrev pub told_written : Written → Told
-told_written (Ok n) = fine (wrote n)
-told_written (Err r) = refused r
+told_written = told_by wrote
 
 -- a refusal where there is one, and else the tale
 abbrev pub tell : Option Refusal → Tale → Told

@@ -1,4 +1,6 @@
 use Rattle.reading.proofs.ReadCalls.{read_long, read_faulty, read_spelt}
+use Rattle.rules.specs.TextCalls.{TextRead}
+use Rattle.laws.proofs.Turns.{on_exit}
 use Rattle.reading.proofs.read_text.Goals as goal
 
 pub returns-then-text-gt-MOST_BYTES : goal.returns-then-text-gt-MOST_BYTES
