@@ -15,10 +15,10 @@ ghost use Rattle.rules.specs.Waterfall.{most_side, columns_of, codes_of, picture
 ghost use Rattle.laws.specs.Checking.{checked_by};
 ghost use Rattle.laws.specs.Drawing.{Sized, Drawable, words_from, rows_from};
 ghost use Rattle.laws.specs.SoundList.{SoundList};
-ghost use Rattle.along.specs.Lines.{Roomy};
 ghost use Rattle.says.specs.Checks.{Accepted};
 ghost use Rattle.waterfall.specs.Drawing.{shape_refusal};
 
+use along::Entries;
 use rules::{Axis, Checked, Point, Rectangle, Window, Written};
 use says::Asked;
 use span::Line;
@@ -87,34 +87,14 @@ fn check_picture(list: &[u64], q: Rectangle, room: usize) -> Checked
 }
 
 // The word of the place in a point's column and code: a list's header has its frames in places.
-fn newest_at(
-    table: &[i32],
-    list: &[u64],
-    p: Point,
-    marks: &mut [u64],
-    los: &mut [u64],
-    his: &mut [u64],
-) -> i32
+fn newest_at(table: &[i32], list: &[u64], p: Point, entries: &mut Entries) -> i32
     requires accepted { Accepted table.now list.now }
     requires p_value { holds everywhere p ≡ true }
-    requires roomy { Roomy marks.old los.old his.old }
-    ensures value { result ≡ place_word (inside_list (primitives table.now) list.now) (list_window list.now).z p.x p.y }
-    ensures room { Roomy marks.new los.new his.new }
+    ensures { result ≡ place_word (inside_list (primitives table.now) list.now) (list_window list.now).z p.x p.y }
 {
     let from = list[rules::LOWEST_FRAME_WORD];
     let to = list[rules::HIGHEST_FRAME_WORD] + 1;
-    let past = along::highest_inside(
-        Asked::List,
-        table,
-        list,
-        Line::Frames,
-        p,
-        from,
-        to,
-        marks,
-        los,
-        his,
-    );
+    let past = along::highest_inside(Asked::List, table, list, Line::Frames, p, from, to, entries);
     if past == from {
         return rules::NO_FRAME;
     }
@@ -130,27 +110,21 @@ fn put_row(
     width: usize,
     picture: &mut [i32],
     at: usize,
-    marks: &mut [u64],
-    los: &mut [u64],
-    his: &mut [u64],
+    entries: &mut Entries,
 )
     requires accepted { Accepted table.now list.now }
-    requires by_index { (i : ℕ) → i < width → within columns (xlo +ℤ pos i) ≡ true }
+    requires columns_in_range { (i : ℕ) → i < width → within columns (xlo +ℤ pos i) ≡ true }
     requires y_value { within codes y ≡ true }
     requires width_le_most_side { (width ≤ most_side) × (at + width ≤ length picture.old) }
-    requires roomy { Roomy marks.old los.old his.old }
-    ensures picture_after { picture.new ≡ sets picture.old at (words_from (inside_list (primitives table.now) list.now) (list_window list.now).z xlo y width) }
-    ensures room { Roomy marks.new los.new his.new }
+    ensures { picture.new ≡ sets picture.old at (words_from (inside_list (primitives table.now) list.now) (list_window list.now).z xlo y width) }
 {
-    let mut i: usize = 0;
-    while i < width {
+    for i in 0..width {
         let p = Point {
             x: xlo + (i as i32),
             y,
             z: 0,
         };
-        picture[at + i] = newest_at(table, list, p, marks, los, his);
-        i += 1;
+        picture[at + i] = newest_at(table, list, p, entries);
     }
 }
 
@@ -163,34 +137,17 @@ fn put_rows(
     width: usize,
     height: usize,
     picture: &mut [i32],
-    marks: &mut [u64],
-    los: &mut [u64],
-    his: &mut [u64],
+    entries: &mut Entries,
 )
     requires accepted { Accepted table.now list.now }
-    requires by_index { (i : ℕ) → i < width → within columns (xlo +ℤ pos i) ≡ true }
-    requires by_index_2 { (j : ℕ) → j < height → within codes (yhi -ℤ pos j) ≡ true }
+    requires columns_in_range { (i : ℕ) → i < width → within columns (xlo +ℤ pos i) ≡ true }
+    requires codes_in_range { (j : ℕ) → j < height → within codes (yhi -ℤ pos j) ≡ true }
     requires width_le_most_side { (width ≤ most_side) × ((height ≤ most_side) × (height * width ≤ length picture.old)) }
-    requires roomy { Roomy marks.old los.old his.old }
-    ensures picture_after { picture.new ≡ sets picture.old 0 (rows_from (inside_list (primitives table.now) list.now) (list_window list.now).z xlo yhi width height) }
-    ensures room { Roomy marks.new los.new his.new }
+    ensures { picture.new ≡ sets picture.old 0 (rows_from (inside_list (primitives table.now) list.now) (list_window list.now).z xlo yhi width height) }
 {
-    let mut j: usize = 0;
-    while j < height {
+    for j in 0..height {
         let y = yhi - (j as i32);
-        put_row(
-            table,
-            list,
-            xlo,
-            y,
-            width,
-            picture,
-            j * width,
-            marks,
-            los,
-            his,
-        );
-        j += 1;
+        put_row(table, list, xlo, y, width, picture, j * width, entries);
     }
 }
 
@@ -201,13 +158,18 @@ fn put_picture(table: &[i32], list: &[u64], q: Rectangle, picture: &mut [i32])
     requires q_in_bounds { picture_words q ≤ length picture.old }
     ensures { picture.new ≡ sets picture.old 0 (waterfall table.now list.now q) }
 {
-    let mut marks: [u64; 64] = [0; 64];
-    let mut los: [u64; 64] = [0; 64];
-    let mut his: [u64; 64] = [0; 64];
+    let mut entries = Entries::new();
     let width = size(q.xlo, q.xhi);
     let height = size(q.ylo, q.yhi);
     put_rows(
-        table, list, q.xlo, q.yhi, width, height, picture, &mut marks, &mut los, &mut his,
+        table,
+        list,
+        q.xlo,
+        q.yhi,
+        width,
+        height,
+        picture,
+        &mut entries,
     );
 }
 
