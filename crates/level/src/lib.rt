@@ -2,61 +2,60 @@
 
 #![tactic(auto)]
 
-ghost use Rattle.std.specs.Prelude.{◌≤◌, ◌≡◌, length, if◌then◌else◌};
+ghost use Rattle.std.specs.Prelude.{◌≤◌, ◌≡◌};
 ghost use Rattle.span.specs.Along.{between};
-ghost use Rattle.level.specs.Levels.{Steady, Levels};
+ghost use Rattle.level.specs.Levels.{mark_at, Steady, Levels};
+
+use span::Stretch;
+
+// A stretch, and the mark of the one whose it is.
+#[derive(Clone, Copy, PartialEq, Eq, Debug)]
+pub struct Entry {
+    pub mark: u64,
+    pub stretch: Stretch,
+}
 
 // The marks that a place has, and the least place down to which they stay the same.
-#[derive(Clone, Copy)]
+#[derive(Clone, Copy, PartialEq, Eq, Debug)]
 pub struct Shelf {
     pub set: u64,
     pub floor: u64,
 }
 
-// The floor, raised to where the stretch lo..=hi says one thing up to v.
-fn lift(lo: u64, hi: u64, v: u64, floor: u64) -> u64
+// The floor, raised to where a stretch says one thing up to v.
+fn lift(s: Stretch, v: u64, floor: u64) -> u64
     requires { floor ≤ v }
-    ensures { Steady (between (record { lo = lo; hi = hi })) v floor result }
+    ensures { Steady (between s) v floor result }
 {
-    if hi < v {
-        if hi < lo {
+    if s.hi < v {
+        if s.hi < s.lo {
             return floor;
         }
-        if hi < floor {
-            return floor;
-        }
-        return hi + 1;
+        return floor.max(s.hi + 1);
     }
-    if v < lo {
+    if v < s.lo {
         return floor;
     }
-    if floor < lo {
-        return lo;
-    }
-    floor
+    floor.max(s.lo)
 }
 
-fn mark(mark: u64, had: bool) -> u64
-    ensures { result ≡ (if had then mark else 0) }
+// An entry's mark, if its stretch has the place.
+fn mark_at(e: Entry, v: u64) -> u64
+    ensures { result ≡ mark_at e v }
 {
-    if had { mark } else { 0 }
+    if e.stretch.has(v) { e.mark } else { 0 }
 }
 
-// The first n entries at place v, looking no lower than `from`.
-pub fn level(marks: &[u64], los: &[u64], his: &[u64], n: usize, v: u64, from: u64) -> Shelf
-    requires from_le_v { from ≤ v }
-    requires n_in_bounds { (n ≤ length marks.now) × ((n ≤ length los.now) × (n ≤ length his.now)) }
-    ensures { Levels marks.now los.now his.now n v from result }
+// The entries at place v, looking no lower than `from`.
+pub fn level(entries: &[Entry], v: u64, from: u64) -> Shelf
+    requires { from ≤ v }
+    ensures { Levels entries.now v from result }
 {
     let mut set: u64 = 0;
     let mut floor = from;
-    let mut i: usize = 0;
-    while i < n {
-        let lo = los[i];
-        let hi = his[i];
-        set = set | mark(marks[i], (lo <= v) & (v <= hi));
-        floor = lift(lo, hi, v, floor);
-        i += 1;
+    for entry in entries {
+        set |= mark_at(*entry, v);
+        floor = lift(entry.stretch, v, floor);
     }
     Shelf { set, floor }
 }

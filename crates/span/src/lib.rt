@@ -14,7 +14,7 @@ ghost use Rattle.rules.specs.ListWords.{raised};
 ghost use Rattle.rules.specs.Products.{box_of};
 ghost use Rattle.rules.specs.Sides.{side};
 ghost use Rattle.laws.specs.Sound.{solid_right};
-ghost use Rattle.span.specs.Along.{places, value, Along, shared, near, code_point, point_at, beside, meets, range_along, slope_along, across, left_along, ellipse_left, Root, ahead};
+ghost use Rattle.span.specs.Along.{places, value, between, Along, shared, near, code_point, point_at, beside, meets, range_along, slope_along, across, left_along, ellipse_left, Root, ahead};
 
 use rules::{BoxShape, Corner, DrumShape, Point, Primitive, TriangleShape, WedgeShape};
 use solid::Range;
@@ -96,6 +96,12 @@ impl Stretch {
         ensures { Along (λ v. true) result }
     {
         Stretch { lo: 0, hi: LAST }
+    }
+
+    pub fn has(self, place: u64) -> bool
+        ensures { result ≡ between self place }
+    {
+        (self.lo <= place) & (place <= self.hi)
     }
 
     // What two stretches have in common.

@@ -13,9 +13,9 @@ ghost use Rattle.rules.specs.Ranges.{within, columns};
 ghost use Rattle.frame.specs.Tallies.{Tallied};
 ghost use Rattle.span.specs.Along.{places, code_point};
 ghost use Rattle.says.specs.Asking.{inside_by, Ready};
-ghost use Rattle.along.specs.Lines.{Roomy};
 ghost use Rattle.sweep.specs.Sweeps.{fill_places, Known, telling, with_hit};
 
+use along::Entries;
 use frame::Tally;
 use rules::{Place, Point};
 use says::Asked;
@@ -79,14 +79,7 @@ fn tells(q: Patch, x: u64, s: Stretch) -> bool
 fn with_hit(q: Patch, hit: bool) -> Patch
     ensures { result ≡ with_hit q hit }
 {
-    Patch {
-        from: q.from,
-        until: q.until,
-        floor: q.floor,
-        roof: q.roof,
-        inside: q.inside,
-        hit,
-    }
+    Patch { hit, ..q }
 }
 
 // A point, by the primitives that hold it.
@@ -141,29 +134,14 @@ fn some_inside(
     p: Point,
     from: u64,
     to: u64,
-    marks: &mut [u64],
-    los: &mut [u64],
-    his: &mut [u64],
+    entries: &mut Entries,
 ) -> bool
     requires ready { Ready asked table.now list.now }
     requires p_value { holds everywhere p ≡ true }
     requires from_le_to { (from ≤ to) × (to ≤ places) }
-    requires roomy { Roomy marks.old los.old his.old }
-    ensures value { result ≡ any_of (λ v. inside_by asked table.now list.now (code_point p v)) (rest from to) }
-    ensures room { Roomy marks.new los.new his.new }
+    ensures { result ≡ any_of (λ v. inside_by asked table.now list.now (code_point p v)) (rest from to) }
 {
-    from < along::highest_inside(
-        asked,
-        table,
-        list,
-        Line::Codes,
-        p,
-        from,
-        to,
-        marks,
-        los,
-        his,
-    )
+    from < along::highest_inside(asked, table, list, Line::Codes, p, from, to, entries)
 }
 
 // One column: from the patch that is there, else from a new one, else by the walk down the column.
@@ -174,18 +152,14 @@ fn look(
     p: Point,
     before: u64,
     q: Patch,
-    marks: &mut [u64],
-    los: &mut [u64],
-    his: &mut [u64],
+    entries: &mut Entries,
 ) -> Patch
     requires ready { Ready asked table.now list.now }
     requires p_value { holds everywhere p ≡ true }
     requires before_lt_places { before < places }
     requires known { Known (inside_by asked table.now list.now) p.z q }
-    requires roomy { Roomy marks.old los.old his.old }
-    ensures known_2 { Known (inside_by asked table.now list.now) p.z result }
+    ensures known { Known (inside_by asked table.now list.now) p.z result }
     ensures told { result.hit ≡ any_of (λ v. inside_by asked table.now list.now (code_point p v)) (rest (fill_places before (raised Frame p.y)).lo ((fill_places before (raised Frame p.y)).hi + 1)) }
-    ensures room { Roomy marks.new los.new his.new }
 {
     let x = span::place_of(p.x);
     let s = fill_places(before, span::place_of(p.y));
@@ -196,7 +170,7 @@ fn look(
     if tells(n, x, s) {
         return with_hit(n, n.inside);
     }
-    let hit = some_inside(asked, table, list, p, s.lo, s.hi + 1, marks, los, his);
+    let hit = some_inside(asked, table, list, p, s.lo, s.hi + 1, entries);
     with_hit(n, hit)
 }
 
@@ -206,9 +180,7 @@ pub fn scan(asked: Asked, table: &[i32], list: &[u64], samples: &[i16], place: P
     requires place_value { frame_refusal samples.now place ≡ none }
     ensures { Tallied (sample_inside (inside_by asked table.now list.now) samples.now place) (length samples.now) result }
 {
-    let mut marks: [u64; 64] = [0; 64];
-    let mut los: [u64; 64] = [0; 64];
-    let mut his: [u64; 64] = [0; 64];
+    let mut entries = Entries::new();
     let mut before = code_place(samples, place, 0);
     let mut q = Patch {
         from: 1,
@@ -219,15 +191,11 @@ pub fn scan(asked: Asked, table: &[i32], list: &[u64], samples: &[i16], place: P
         hit: false,
     };
     let mut t = Tally { first: 0, count: 0 };
-    let mut k: usize = 0;
-    while k < samples.len() {
+    for k in 0..samples.len() {
         let p = frame::point_at(samples, place, k);
-        q = look(
-            asked, table, list, p, before, q, &mut marks, &mut los, &mut his,
-        );
+        q = look(asked, table, list, p, before, q, &mut entries);
         t = frame::counted(t, k, q.hit);
         before = code_place(samples, place, k);
-        k += 1;
     }
     t
 }

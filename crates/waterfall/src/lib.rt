@@ -15,11 +15,11 @@ ghost use Rattle.rules.specs.Waterfall.{most_side, columns_of, codes_of, picture
 ghost use Rattle.laws.specs.Checking.{checked_by};
 ghost use Rattle.laws.specs.Drawing.{Sized, Drawable, words_from, rows_from};
 ghost use Rattle.laws.specs.SoundList.{SoundList};
-ghost use Rattle.along.specs.Lines.{Roomy};
 ghost use Rattle.says.specs.Checks.{Accepted};
 ghost use Rattle.waterfall.specs.Drawing.{shape_refusal};
 
-use rules::{Axis, Checked, Point, Rectangle, Window, Written};
+use along::Entries;
+use rules::{Axis, Point, Rectangle, Refusal, Rule, Window};
 use says::Asked;
 use span::Line;
 
@@ -31,27 +31,23 @@ fn above(lo: i32, hi: i32) -> i64
 }
 
 // A side lo..hi of a rectangle, of which lo is bound i, in a window's least..most.
-fn check_side(least: i32, most: i32, lo: i32, hi: i32, i: usize) -> Checked
+fn check_side(least: i32, most: i32, lo: i32, hi: i32, i: usize) -> Result<(), Refusal>
     requires { i ≤ 2 }
     ensures { result ≡ checked_by (first_of (side_refusals (record { lo = least; hi = most }) (record { lo = lo; hi = hi }) i)) }
 {
-    table::first_of(
-        table::refuse_unless(window::between(least, lo, most), 6, i),
-        table::refuse_unless(
-            window::between(least, hi, most) & ((lo <= hi) & (above(lo, hi) < rules::MOST_SIDE)),
-            6,
-            i + 1,
-        ),
+    table::refuse_unless(window::between(least, lo, most), Rule::Bound, i)?;
+    table::refuse_unless(
+        window::between(least, hi, most) & ((lo <= hi) & (above(lo, hi) < rules::MOST_SIDE)),
+        Rule::Bound,
+        i + 1,
     )
 }
 
-fn check_rectangle(w: Window, q: Rectangle) -> Checked
+fn check_rectangle(w: Window, q: Rectangle) -> Result<(), Refusal>
     ensures { result ≡ checked_by (rectangle_refusal (window_box w) q) }
 {
-    table::first_of(
-        check_side(w.xlo, w.xhi, q.xlo, q.xhi, 0),
-        check_side(w.ylo, w.yhi, q.ylo, q.yhi, 2),
-    )
+    check_side(w.xlo, w.xhi, q.xlo, q.xhi, 0)?;
+    check_side(w.ylo, w.yhi, q.ylo, q.yhi, 2)
 }
 
 // How many columns or codes a side has.
@@ -72,49 +68,24 @@ fn words_of(q: Rectangle) -> usize
 }
 
 // The rectangle, then the room.
-fn check_picture(list: &[u64], q: Rectangle, room: usize) -> Checked
+fn check_picture(list: &[u64], q: Rectangle, room: usize) -> Result<(), Refusal>
     requires { SoundList list.now }
     ensures { result ≡ checked_by (shape_refusal (list_window list.now) q room) }
 {
-    let checked = check_rectangle(layout::window_of(list), q);
-    match checked {
-        Checked::Refused(refusal) => Checked::Refused(refusal),
-        Checked::Sound => {
-            let needed = words_of(q);
-            table::refuse_unless(needed <= room, 8, needed)
-        }
-    }
+    check_rectangle(layout::window_of(list), q)?;
+    let needed = words_of(q);
+    table::refuse_unless(needed <= room, Rule::Room, needed)
 }
 
 // The word of the place in a point's column and code: a list's header has its frames in places.
-fn newest_at(
-    table: &[i32],
-    list: &[u64],
-    p: Point,
-    marks: &mut [u64],
-    los: &mut [u64],
-    his: &mut [u64],
-) -> i32
+fn newest_at(table: &[i32], list: &[u64], p: Point, entries: &mut Entries) -> i32
     requires accepted { Accepted table.now list.now }
     requires p_value { holds everywhere p ≡ true }
-    requires roomy { Roomy marks.old los.old his.old }
-    ensures value { result ≡ place_word (inside_list (primitives table.now) list.now) (list_window list.now).z p.x p.y }
-    ensures room { Roomy marks.new los.new his.new }
+    ensures { result ≡ place_word (inside_list (primitives table.now) list.now) (list_window list.now).z p.x p.y }
 {
     let from = list[rules::LOWEST_FRAME_WORD];
     let to = list[rules::HIGHEST_FRAME_WORD] + 1;
-    let past = along::highest_inside(
-        Asked::List,
-        table,
-        list,
-        Line::Frames,
-        p,
-        from,
-        to,
-        marks,
-        los,
-        his,
-    );
+    let past = along::highest_inside(Asked::List, table, list, Line::Frames, p, from, to, entries);
     if past == from {
         return rules::NO_FRAME;
     }
@@ -130,27 +101,21 @@ fn put_row(
     width: usize,
     picture: &mut [i32],
     at: usize,
-    marks: &mut [u64],
-    los: &mut [u64],
-    his: &mut [u64],
+    entries: &mut Entries,
 )
     requires accepted { Accepted table.now list.now }
-    requires by_index { (i : ℕ) → i < width → within columns (xlo +ℤ pos i) ≡ true }
+    requires columns_in_range { (i : ℕ) → i < width → within columns (xlo +ℤ pos i) ≡ true }
     requires y_value { within codes y ≡ true }
     requires width_le_most_side { (width ≤ most_side) × (at + width ≤ length picture.old) }
-    requires roomy { Roomy marks.old los.old his.old }
-    ensures picture_after { picture.new ≡ sets picture.old at (words_from (inside_list (primitives table.now) list.now) (list_window list.now).z xlo y width) }
-    ensures room { Roomy marks.new los.new his.new }
+    ensures { picture.new ≡ sets picture.old at (words_from (inside_list (primitives table.now) list.now) (list_window list.now).z xlo y width) }
 {
-    let mut i: usize = 0;
-    while i < width {
+    for i in 0..width {
         let p = Point {
             x: xlo + (i as i32),
             y,
             z: 0,
         };
-        picture[at + i] = newest_at(table, list, p, marks, los, his);
-        i += 1;
+        picture[at + i] = newest_at(table, list, p, entries);
     }
 }
 
@@ -163,34 +128,17 @@ fn put_rows(
     width: usize,
     height: usize,
     picture: &mut [i32],
-    marks: &mut [u64],
-    los: &mut [u64],
-    his: &mut [u64],
+    entries: &mut Entries,
 )
     requires accepted { Accepted table.now list.now }
-    requires by_index { (i : ℕ) → i < width → within columns (xlo +ℤ pos i) ≡ true }
-    requires by_index_2 { (j : ℕ) → j < height → within codes (yhi -ℤ pos j) ≡ true }
+    requires columns_in_range { (i : ℕ) → i < width → within columns (xlo +ℤ pos i) ≡ true }
+    requires codes_in_range { (j : ℕ) → j < height → within codes (yhi -ℤ pos j) ≡ true }
     requires width_le_most_side { (width ≤ most_side) × ((height ≤ most_side) × (height * width ≤ length picture.old)) }
-    requires roomy { Roomy marks.old los.old his.old }
-    ensures picture_after { picture.new ≡ sets picture.old 0 (rows_from (inside_list (primitives table.now) list.now) (list_window list.now).z xlo yhi width height) }
-    ensures room { Roomy marks.new los.new his.new }
+    ensures { picture.new ≡ sets picture.old 0 (rows_from (inside_list (primitives table.now) list.now) (list_window list.now).z xlo yhi width height) }
 {
-    let mut j: usize = 0;
-    while j < height {
+    for j in 0..height {
         let y = yhi - (j as i32);
-        put_row(
-            table,
-            list,
-            xlo,
-            y,
-            width,
-            picture,
-            j * width,
-            marks,
-            los,
-            his,
-        );
-        j += 1;
+        put_row(table, list, xlo, y, width, picture, j * width, entries);
     }
 }
 
@@ -201,29 +149,29 @@ fn put_picture(table: &[i32], list: &[u64], q: Rectangle, picture: &mut [i32])
     requires q_in_bounds { picture_words q ≤ length picture.old }
     ensures { picture.new ≡ sets picture.old 0 (waterfall table.now list.now q) }
 {
-    let mut marks: [u64; 64] = [0; 64];
-    let mut los: [u64; 64] = [0; 64];
-    let mut his: [u64; 64] = [0; 64];
+    let mut entries = Entries::new();
     let width = size(q.xlo, q.xhi);
     let height = size(q.ylo, q.yhi);
     put_rows(
-        table, list, q.xlo, q.yhi, width, height, picture, &mut marks, &mut los, &mut his,
+        table,
+        list,
+        q.xlo,
+        q.yhi,
+        width,
+        height,
+        picture,
+        &mut entries,
     );
 }
 
 // Table and list are accepted: the rectangle and the room, then the words.
-fn draw(table: &[i32], list: &[u64], q: Rectangle, picture: &mut [i32]) -> Written
+fn draw(table: &[i32], list: &[u64], q: Rectangle, picture: &mut [i32]) -> Result<usize, Refusal>
     requires { Accepted table.now list.now }
     ensures { PictureDrawn table.now list.now q picture.old picture.new result }
 {
-    let checked = check_picture(list, q, picture.len());
-    match checked {
-        Checked::Refused(refusal) => Written::Refused(refusal),
-        Checked::Sound => {
-            put_picture(table, list, q, picture);
-            Written::Wrote(words_of(q))
-        }
-    }
+    check_picture(list, q, picture.len())?;
+    put_picture(table, list, q, picture);
+    Ok(words_of(q))
 }
 
 pub fn list_waterfall(
@@ -231,12 +179,9 @@ pub fn list_waterfall(
     list: &[u64],
     rectangle: Rectangle,
     picture: &mut [i32],
-) -> Written
+) -> Result<usize, Refusal>
     ensures { PictureDrawn table.now list.now rectangle picture.old picture.new result }
 {
-    let checked = accept::check_both(table, list);
-    match checked {
-        Checked::Refused(refusal) => Written::Refused(refusal),
-        Checked::Sound => draw(table, list, rectangle, picture),
-    }
+    accept::check_both(table, list)?;
+    draw(table, list, rectangle, picture)
 }

@@ -1,4 +1,4 @@
-use Prim.Native.Nat.{ℕ, ◌-◌, ◌≤◌}
+use Prim.Native.Nat.{ℕ, ◌-◌}
 use mathlib.Core.Bool.{Bool, true}
 use mathlib.Core.List.{List}
 use mathlib.Core.Path.{◌≡◌}
@@ -13,7 +13,6 @@ use Rattle.frame.proofs.Tallies.{Running}
 use Rattle.frame.specs.declared.Tally.{Tally}
 use Rattle.says.specs.declared.Asked.{Asked}
 use Rattle.says.specs.Asking.{inside_by}
-use Rattle.along.specs.Lines.{Roomy}
 use Rattle.sweep.specs.declared.Patch.{Patch}
 use Rattle.sweep.specs.Sweeps.{Known}
 use Rattle.sweep.proofs.scan.Given as goal
@@ -26,15 +25,10 @@ pub record Before (samples : List ℤ) (k before : ℕ) : Type 0 where
   pub is : before ≡ raised Frame (code_at samples (k - 1))
   pub ranged : within columns (code_at samples (k - 1)) ≡ true
 
-pub record Inv (asked : Asked) (table : List ℤ) (list : List ℕ) (samples : List ℤ) (place : Place) (marks los his : List ℕ) (before : ℕ) (q : Patch) (t : Tally) (k : ℕ) : Type 0 where
-  pub in_frame : k ≤ length samples
+pub record Inv (asked : Asked) (table : List ℤ) (list : List ℕ) (samples : List ℤ) (place : Place) (before : ℕ) (q : Patch) (t : Tally) (k : ℕ) : Type 0 where
   pub preceded : Before samples k before
   pub running : Running (test asked table list samples place) (length samples) k t
   pub known : Known (inside_by asked table list) place.frame q
-  pub room : Roomy marks los his
 
 abbrev pub invariant-loop-k : goal.invariant-loop-k
-invariant-loop-k l = Inv l.asked l.table l.list l.samples l.place l.marks l.los l.his l.before l.q l.t l.k
-
-abbrev pub decreases-loop-k : goal.decreases-loop-k
-decreases-loop-k l = length l.samples - l.k
+invariant-loop-k l = Inv l.asked l.table l.list l.samples l.place l.before l.q l.t l.k

@@ -4,9 +4,4 @@ use Rattle.along.proofs.Walks.{highest_any}
 use Rattle.sweep.proofs.some_inside.Goals as goal
 
 pub returns : goal.returns
-returns c =
-    let d = c.before.before.before.before.before.before.before in
-    let s = d.before.before.before.before.before.before.before.before in record {
-      value = highest_any (λ v. inside_by s.args.asked s.args.table.now s.args.list.now (code_point s.args.p v)) d.highest_inside.ensures.highest;
-      room = d.highest_inside.ensures.room;
-    }
+returns c = highest_any (λ v. inside_by c.args.asked c.args.table.now c.args.list.now (code_point c.args.p v)) c.highest_inside.ensures

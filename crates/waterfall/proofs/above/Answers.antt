@@ -4,7 +4,6 @@ use mir.Syntax.{w32, w64}
 use mir.Val.{to_z, of_z}
 use Rattle.ground.proofs.Num.{Num, widens, wide, sub_fits, sub_num}
 use Rattle.waterfall.proofs.above.Lts as lts
-use Rattle.waterfall.proofs.above.Tie as tie
 use Rattle.waterfall.proofs.above.Reads as reads
 use Rattle.waterfall.proofs.above.Goals as goal
 

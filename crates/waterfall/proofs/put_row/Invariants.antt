@@ -1,14 +1,12 @@
-use Prim.Native.Nat.{ℕ, ◌-◌, ◌≤◌}
+use Prim.Native.Nat.{ℕ}
 use mathlib.Core.List.{List}
 use mathlib.Core.Path.{◌≡◌}
 use lib.IntN.{ℤ}
 use lib.Seq.{sets}
 use Rattle.rules.specs.ListInside.{inside_list}
 use Rattle.rules.specs.ListWords.{list_window}
-use Rattle.rules.specs.Ranges.{columns}
 use Rattle.rules.specs.Table.{primitives}
 use Rattle.laws.specs.Drawing.{words_from}
-use Rattle.along.specs.Lines.{Roomy}
 use Rattle.waterfall.proofs.put_row.Given as goal
 
 -- the words of the first columns
@@ -17,7 +15,4 @@ words table list = words_from (inside_list (primitives table) list) (list_window
 
 abbrev pub invariant-loop-i : goal.invariant-loop-i
 invariant-loop-i l =
-    (l.i ≤ l.width) × ((l.picture ≡ sets l.initial.picture l.at (words l.table l.list l.xlo l.y l.i)) × Roomy l.marks l.los l.his)
-
-abbrev pub decreases-loop-i : goal.decreases-loop-i
-decreases-loop-i l = l.width - l.i
+    l.picture ≡ sets l.initial.picture l.at (words l.table l.list l.xlo l.y l.i)

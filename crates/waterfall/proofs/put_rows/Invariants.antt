@@ -1,4 +1,4 @@
-use Prim.Native.Nat.{ℕ, ◌-◌, ◌≤◌}
+use Prim.Native.Nat.{ℕ}
 use mathlib.Core.List.{List}
 use mathlib.Core.Path.{◌≡◌}
 use lib.IntN.{ℤ}
@@ -7,7 +7,6 @@ use Rattle.rules.specs.ListInside.{inside_list}
 use Rattle.rules.specs.ListWords.{list_window}
 use Rattle.rules.specs.Table.{primitives}
 use Rattle.laws.specs.Drawing.{rows_from}
-use Rattle.along.specs.Lines.{Roomy}
 use Rattle.waterfall.proofs.put_rows.Given as goal
 
 -- the words of the first rows
@@ -16,7 +15,4 @@ words table list = rows_from (inside_list (primitives table) list) (list_window 
 
 abbrev pub invariant-loop-j : goal.invariant-loop-j
 invariant-loop-j l =
-    (l.j ≤ l.height) × ((l.picture ≡ sets l.initial.picture 0 (words l.table l.list l.xlo l.yhi l.width l.j)) × Roomy l.marks l.los l.his)
-
-abbrev pub decreases-loop-j : goal.decreases-loop-j
-decreases-loop-j l = l.height - l.j
+    l.picture ≡ sets l.initial.picture 0 (words l.table l.list l.xlo l.yhi l.width l.j)
