@@ -1,7 +1,7 @@
 -- What C gets of a call, by what the outcome tells (section 12 of docs/RULES.md): its number and values as three numbers; and what C reads in them.
-use Rattle.std.specs.Prelude.{Ok, Err, None, true, false}
-use Rattle.std.specs.Prelude.{ℕ, eqb, if◌then◌else◌}
+use Rattle.std.specs.Prelude.{ℕ, true, false, Ok, Err, Some, None, eqb, if◌then◌else◌}
 use Rattle.rules.specs.declared.Refusal.{Refusal}
+use Rattle.rules.specs.Rules.{rule_of}
 use Rattle.rules.specs.Told.{Checked, Located, Searched, Written, Tale, sound, inside, outside, clear, hit, wrote, refusal, Told}
 use Rattle.answer_c.specs.declared.Answer.{Answer}
 
@@ -29,16 +29,16 @@ answer_of told = record { refusal = told.number; value = value_of told.tale; cou
 -- ---- what C reads in an answer: a refusal where `refusal` is not 0, and else what the call says
 
 abbrev pub unless_refused : {Outcome : Type 0} → (Refusal → Outcome) → Answer → Outcome → Outcome
-unless_refused refused a fine = if eqb a.refusal 0 then fine else refused (record { number = a.refusal; value = a.value })
+unless_refused refused a fine = if eqb a.refusal 0 then fine else refused (record { rule = rule_of a.refusal; value = a.value })
 
 abbrev pub read_checked : Answer → Checked
 read_checked a = unless_refused Err a (Ok tt)
 
 abbrev pub read_located : Answer → Located
-read_located a = unless_refused Err a (if eqb a.value 0 then (Ok false) else (Ok true))
+read_located a = unless_refused Err a (if eqb a.value 0 then Ok false else Ok true)
 
 abbrev pub read_searched : Answer → Searched
-read_searched a = unless_refused Err a (if eqb a.count 0 then (Ok None) else searched.Hit a.value a.count)
+read_searched a = unless_refused Err a (if eqb a.count 0 then Ok None else Ok (Some (record { first = a.value; count = a.count })))
 
 abbrev pub read_written : Answer → Written
 read_written a = unless_refused Err a (Ok a.value)

@@ -3,10 +3,10 @@
 #![tactic(auto)]
 
 ghost use Rattle.std.specs.Prelude.{◌≡◌};
-ghost use Rattle.rules.specs.Told.{told_checked, told_located, told_searched, told_written};
-ghost use Rattle.answer_c.specs.Answers.{answer_of};
+ghost use Rattle.rules.specs.Told.{Tale, checked_tale, located_tale, searched_tale, wrote, told_by};
+ghost use Rattle.answer_c.specs.Answers.{value_of, count_of, answer_of};
 
-use rules::{Checked, Located, Searched, Written};
+use rules::{Hit, Refusal};
 
 // The refusal's number, 0 where nothing is refused; then its value, 1 for inside, the words or bytes written, or the position of the first inside
 // sample; then the number of inside samples. What is not named is 0.
@@ -18,55 +18,71 @@ pub struct Answer {
     pub count: u64,
 }
 
-// The answer with these numbers.
-fn numbers(refusal: u64, value: u64, count: u64) -> Answer
-    ensures { result ≡ record { refusal = refusal; value = value; count = count } }
-{
-    Answer {
-        refusal,
-        value,
-        count,
+// What a call answers where it refuses nothing, told in two numbers.
+pub trait Outcome {
+    ghost tale: { Self → Tale };
+
+    fn value_and_count(self) -> (u64, u64)
+        ensures value { result.0 ≡ value_of (tale self) }
+        ensures count { result.1 ≡ count_of (tale self) };
+}
+
+// A table is sound.
+impl Outcome for () {
+    ghost tale = { checked_tale };
+
+    fn value_and_count(self) -> (u64, u64) {
+        (0, 0)
     }
 }
 
-// The answer of the check of a table.
-pub fn of_checked(checked: Checked) -> Answer
-    ensures { result ≡ answer_of (told_checked checked) }
-{
-    match checked {
-        Checked::Sound => numbers(0, 0, 0),
-        Checked::Refused(refusal) => numbers(refusal.number, refusal.value, 0),
+// Whether a point is inside.
+impl Outcome for bool {
+    ghost tale = { located_tale };
+
+    fn value_and_count(self) -> (u64, u64) {
+        (u64::from(self), 0)
     }
 }
 
-// The answer of a question about one point.
-pub fn of_located(located: Located) -> Answer
-    ensures { result ≡ answer_of (told_located located) }
-{
-    match located {
-        Located::Outside => numbers(0, 0, 0),
-        Located::Inside => numbers(0, 1, 0),
-        Located::Refused(refusal) => numbers(refusal.number, refusal.value, 0),
+// The search of a frame.
+impl Outcome for Option<Hit> {
+    ghost tale = { searched_tale };
+
+    fn value_and_count(self) -> (u64, u64) {
+        match self {
+            Some(hit) => (hit.first as u64, hit.count as u64),
+            None => (0, 0),
+        }
     }
 }
 
-// The answer of the search of a frame.
-pub fn of_searched(searched: Searched) -> Answer
-    ensures { result ≡ answer_of (told_searched searched) }
-{
-    match searched {
-        Searched::Clear => numbers(0, 0, 0),
-        Searched::Hit { first, count } => numbers(0, first as u64, count as u64),
-        Searched::Refused(refusal) => numbers(refusal.number, refusal.value, 0),
+// The words or bytes that were written.
+impl Outcome for usize {
+    ghost tale = { wrote };
+
+    fn value_and_count(self) -> (u64, u64) {
+        (self as u64, 0)
     }
 }
 
-// The answer of a call that writes.
-pub fn of_written(written: Written) -> Answer
-    ensures { result ≡ answer_of (told_written written) }
+// The answer that tells an outcome.
+pub fn tell<T: Outcome>(outcome: Result<T, Refusal>) -> Answer
+    ensures { result ≡ answer_of (told_by T.tale outcome) }
 {
-    match written {
-        Written::Wrote(n) => numbers(0, n as u64, 0),
-        Written::Refused(refusal) => numbers(refusal.number, refusal.value, 0),
+    match outcome {
+        Ok(told) => {
+            let (value, count) = told.value_and_count();
+            Answer {
+                refusal: 0,
+                value,
+                count,
+            }
+        }
+        Err(refusal) => Answer {
+            refusal: refusal.rule.number(),
+            value: refusal.value,
+            count: 0,
+        },
     }
 }

@@ -10,33 +10,15 @@ use mathlib.Core.Path.{◌≡◌, refl, sym, ap, ◌∙◌}
 use Rattle.rules.specs.declared.Refusal.{Refusal}
 use Rattle.rules.specs.declared.Rule.{Rule}
 use Rattle.rules.specs.declared.Rule.TheVariants as rule
-use Rattle.rules.specs.Rules.{number_of}
+use Rattle.rules.specs.Rules.{number_of, rule_of}
 use Rattle.rules.specs.Screen.{triple_of}
 use Rattle.rules.specs.Told.{Checked, Located, Searched, Written, Told, wrote, fine, refused, tell, told_checked, told_located, told_searched, told_written}
 
 tale : {a b : Told} → a ≡ b → a.tale ≡ b.tale
 tale e = ap (λ (t : Told). t.tale) e
 
--- the rule of a number, so that no two rules have one
-abbrev rule_of : ℕ → Rule
-rule_of n =
-    if eqb n 1 then rule.Length else
-    if eqb n 2 then rule.Kind else
-    if eqb n 3 then rule.Fields else
-    if eqb n 4 then rule.Children else
-    if eqb n 5 then rule.Once else
-    if eqb n 6 then rule.Bound else
-    if eqb n 7 then rule.Choices else
-    if eqb n 8 then rule.Room else
-    if eqb n 9 then rule.List else
-    if eqb n 10 then rule.Outside else
-    if eqb n 11 then rule.Primitives else
-    if eqb n 12 then rule.Frame else
-    if eqb n 13 then rule.Text else
-    if eqb n 14 then rule.Leaves else
-    rule.Ways
-
-rule_back : (r : Rule) → rule_of (number_of r) ≡ r
+-- no two rules have one number
+pub rule_back : (r : Rule) → rule_of (number_of r) ≡ r
 rule_back rule.Length = refl
 rule_back rule.Kind = refl
 rule_back rule.Fields = refl

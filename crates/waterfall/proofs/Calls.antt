@@ -11,6 +11,7 @@ use lib.IntN.{ℤ, pos, ◌+ℤ◌, ◌-ℤ◌}
 use lib.ListN.{length}
 use lib.Seq.{sets}
 use Rattle.ground.proofs.Counting.{first_broken, first_passed, first_kept}
+use Rattle.rules.specs.declared.Rule.TheVariants.{Room}
 use Rattle.rules.specs.declared.Axis.TheVariants.{Column, Code}
 use Rattle.rules.specs.declared.Rectangle.{Rectangle}
 use Rattle.rules.specs.declared.Refusal.{Refusal}
@@ -38,7 +39,7 @@ pub shape_kept : (window : Box) (q : Rectangle) (room : ℕ) → shape_refusal w
 shape_kept window q room right =
     let needed = picture_words q in
     let shape = first_kept (rectangle_refusal window q) (room_refusal needed room ∷ []) right in
-    let enough = unless_kept (leb needed room) 8 needed (first_kept (room_refusal needed room) [] shape.1).0 in
+    let enough = unless_kept (leb needed room) Room needed (first_kept (room_refusal needed room) [] shape.1).0 in
     (drawable window q shape.0, leb-true needed room enough)
 
 -- each column and each code of it is in range

@@ -1,6 +1,6 @@
 -- Nothing is lost on the way to C: from the three numbers C reads the outcome back, so no two outcomes of a call become the same three numbers.
 -- Assumes nothing.
-use Rattle.std.specs.Prelude.{Ok, Err, None, true, false}
+use Rattle.std.specs.Prelude.{Ok, Err, Some, None, true, false}
 use Prim.Native.Nat.{ℕ, zero, suc, ◌≤◌}
 use native.Mathlib.Omega.{arith}
 use mathlib.Core.List.{List}
@@ -9,6 +9,9 @@ use lib.Dec.{eqb, eqb-suc-zero}
 use lib.IntN.{ℤ}
 use Rattle.std.specs.Prelude.{if◌then◌else◌}
 use Rattle.rules.specs.declared.Refusal.{Refusal}
+use Rattle.rules.specs.declared.Rule.{Rule}
+use Rattle.rules.specs.Rules.{number_of, rule_of}
+use Rattle.rules.proofs.Told.{number_bounds, rule_back}
 use Rattle.rules.specs.declared.Place.{Place}
 use Rattle.rules.specs.declared.Point.{Point}
 use Rattle.rules.specs.declared.Rectangle.{Rectangle}
@@ -30,27 +33,29 @@ not_zero : {A : Type 0} (n : ℕ) (a b : A) → 1 ≤ n → (if eqb n 0 then a e
 not_zero zero a b l = absurd (omega arith)
 not_zero (suc n) a b l = rw (eqb-suc-zero n)
 
-refused_back : {Outcome : Type 0} (refusing : Refusal → Outcome) (q : Refusal) (fine : Outcome) → Possible (refused q)
+refused_back : {Outcome : Type 0} (refusing : Refusal → Outcome) (q : Refusal) (fine : Outcome)
     → unless_refused refusing (answer_of (refused q)) fine ≡ refusing q
-refused_back refusing q fine l = not_zero q.number fine (refusing q) l.0
+refused_back refusing q fine =
+    not_zero (number_of q.rule) fine (refusing (record { rule = rule_of (number_of q.rule); value = q.value })) (number_bounds q.rule).0
+    ∙ ap (λ (r : Rule). refusing (record { rule = r; value = q.value })) (rule_back q.rule)
 
 checked_back : (r : Checked) → Possible (told_checked r) → read_checked (answer_of (told_checked r)) ≡ r
-checked_back (Ok tt) l = refl
-checked_back (Err q) l = refused_back Err q _ l
+checked_back (Ok _) l = refl
+checked_back (Err q) l = refused_back Err q _
 
 located_back : (r : Located) → Possible (told_located r) → read_located (answer_of (told_located r)) ≡ r
 located_back (Ok false) l = refl
 located_back (Ok true) l = refl
-located_back (Err q) l = refused_back Err q _ l
+located_back (Err q) l = refused_back Err q _
 
 searched_back : (r : Searched) → Possible (told_searched r) → read_searched (answer_of (told_searched r)) ≡ r
 searched_back (Ok None) l = refl
-searched_back (searched.Hit first count) l = not_zero count (Ok None) (searched.Hit first count) l.1
-searched_back (Err q) l = refused_back Err q _ l
+searched_back (Ok (Some found)) l = not_zero found.count (Ok None) (Ok (Some found)) l.1
+searched_back (Err q) l = refused_back Err q _
 
 written_back : (r : Written) → Possible (told_written r) → read_written (answer_of (told_written r)) ≡ r
 written_back (Ok n) l = refl
-written_back (Err q) l = refused_back Err q _ l
+written_back (Err q) l = refused_back Err q _
 
 -- ---- so each call is readable from C
 

@@ -18,7 +18,7 @@ use rules::{Place, Point, Rectangle, Window};
 pub extern "C" fn lampholly_check(table: &[i32]) -> Answer
     ensures { Answered told_checked (TableChecked table.now) result }
 {
-    answer_c::of_checked(zone::check_table(table))
+    answer_c::tell(zone::check_table(table))
 }
 
 // zone::tree_point: whether a point is inside the zone, by its tree.
@@ -26,7 +26,7 @@ pub extern "C" fn lampholly_check(table: &[i32]) -> Answer
 pub extern "C" fn lampholly_tree_point(table: &[i32], x: i32, y: i32, z: i32) -> Answer
     ensures { Answered told_located (TreeLocated table.now (point x y z)) result }
 {
-    answer_c::of_located(zone::tree_point(table, Point { x, y, z }))
+    answer_c::tell(zone::tree_point(table, Point { x, y, z }))
 }
 
 // zone::tree_search: the first inside sample of a frame and how many there are, by the tree.
@@ -39,7 +39,7 @@ pub extern "C" fn lampholly_tree_search(
 ) -> Answer
     ensures { Answered told_searched (TreeSearched table.now samples.now (place first frame)) result }
 {
-    answer_c::of_searched(zone::tree_search(table, samples, Place { first, frame }))
+    answer_c::tell(zone::tree_search(table, samples, Place { first, frame }))
 }
 
 // zone::make_list: writes the zone's list for a window.
@@ -47,7 +47,7 @@ pub extern "C" fn lampholly_tree_search(
 pub extern "C" fn lampholly_make_list(table: &[i32], window: Window, list: &mut [u64]) -> Answer
     ensures { Answered told_written (ListMade table.now window list.old list.new) result }
 {
-    answer_c::of_written(zone::make_list(table, window, list))
+    answer_c::tell(zone::make_list(table, window, list))
 }
 
 // zone::list_point: whether a point is inside a list.
@@ -61,7 +61,7 @@ pub extern "C" fn lampholly_list_point(
 ) -> Answer
     ensures { Answered told_located (ListLocated table.now list.now (point x y z)) result }
 {
-    answer_c::of_located(zone::list_point(table, list, Point { x, y, z }))
+    answer_c::tell(zone::list_point(table, list, Point { x, y, z }))
 }
 
 // zone::list_search: the first inside sample of a frame and how many there are, by a list.
@@ -75,7 +75,7 @@ pub extern "C" fn lampholly_list_search(
 ) -> Answer
     ensures { Answered told_searched (ListSearched table.now list.now samples.now (place first frame)) result }
 {
-    answer_c::of_searched(zone::list_search(table, list, samples, Place { first, frame }))
+    answer_c::tell(zone::list_search(table, list, samples, Place { first, frame }))
 }
 
 // zone::list_search_frames: three words for each frame of a screenful, by a list.
@@ -91,7 +91,7 @@ pub extern "C" fn lampholly_list_search_frames(
 ) -> Answer
     ensures { Answered told_written (ScreenSearched table.now list.now codes.now frames (place first frame) triples.old triples.new) result }
 {
-    answer_c::of_written(zone::list_search_frames(
+    answer_c::tell(zone::list_search_frames(
         table,
         list,
         codes,
@@ -111,7 +111,7 @@ pub extern "C" fn lampholly_list_waterfall(
 ) -> Answer
     ensures { Answered told_written (PictureDrawn table.now list.now rectangle picture.old picture.new) result }
 {
-    answer_c::of_written(zone::list_waterfall(table, list, rectangle, picture))
+    answer_c::tell(zone::list_waterfall(table, list, rectangle, picture))
 }
 
 // zone::rewrite_tree: the tree in normal form, by the procedure of document 000.
@@ -119,7 +119,7 @@ pub extern "C" fn lampholly_list_waterfall(
 pub extern "C" fn lampholly_rewrite(table: &[i32], tree: &mut [i32], work: &mut [i32]) -> Answer
     ensures { Answered told_written (TreeRewritten table.now tree.old tree.new work.old work.new) result }
 {
-    answer_c::of_written(zone::rewrite_tree(table, tree, work))
+    answer_c::tell(zone::rewrite_tree(table, tree, work))
 }
 
 // zone::read_text: reads zone text into a table.
@@ -127,7 +127,7 @@ pub extern "C" fn lampholly_rewrite(table: &[i32], tree: &mut [i32], work: &mut 
 pub extern "C" fn lampholly_read_text(text: &[u8], table: &mut [i32]) -> Answer
     ensures { Answered told_written (TextRead text.now table.old table.new) result }
 {
-    answer_c::of_written(zone::read_text(text, table))
+    answer_c::tell(zone::read_text(text, table))
 }
 
 // zone::write_text: writes the text of a table.
@@ -135,5 +135,5 @@ pub extern "C" fn lampholly_read_text(text: &[u8], table: &mut [i32]) -> Answer
 pub extern "C" fn lampholly_write_text(table: &[i32], text: &mut [u8]) -> Answer
     ensures { Answered told_written (TextWritten table.now text.old text.new) result }
 {
-    answer_c::of_written(zone::write_text(table, text))
+    answer_c::tell(zone::write_text(table, text))
 }

@@ -7,4 +7,4 @@ pub returns : goal.returns
 returns c =
     let s = c.args in
     answered (ListLocated s.table.now s.list.now) (same_point (search rules) (search rules) (search rules))
-    c.list_point.ensures c.of_located.ensures
+    c.list_point.ensures c.tell.ensures

@@ -9,4 +9,4 @@ returns c =
     let s = called.args in
     let after = called.list_search_frames.new.triples in
     answered (λ place. ScreenSearched s.table.now s.list.now s.codes.now s.frames place s.triples.now after) (same_place (search rules) (search rules))
-    called.list_search_frames.ensures c.of_written.ensures
+    called.list_search_frames.ensures c.tell.ensures

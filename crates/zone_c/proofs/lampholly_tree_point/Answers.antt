@@ -7,4 +7,4 @@ pub returns : goal.returns
 returns c =
     let s = c.args in
     answered (TreeLocated s.table.now) (same_point (search rules) (search rules) (search rules))
-    c.tree_point.ensures c.of_located.ensures
+    c.tree_point.ensures c.tell.ensures
