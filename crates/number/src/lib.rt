@@ -42,22 +42,35 @@ pub fn put_bytes(text: &mut [u8], at: usize, bytes: &[u8]) -> usize
     next
 }
 
+// The power of ten that a number's first digit stands for: the highest that is not above the number, or 1 for 0. It is held against a tenth of the
+// number, since ten times the power may be past 64 bits. By `ilog10` and `pow` a number of three digits takes a fifth longer to write.
+fn highest_power(n: u64) -> u64
+    ensures { result ≡ 10 ^ (length (word_text n) - 1) }
+{
+    let mut power: u64 = 1;
+    while power <= n / 10 {
+        power *= 10;
+    }
+    power
+}
+
 // Writes a number without a sign, from the digit of its highest power of ten down, and answers the position after it. The last digit is what is then
 // left, which spares a division.
 pub fn put_decimal(text: &mut [u8], at: usize, n: u64) -> usize
     requires { at + length (word_text n) ≤ length text.old }
     ensures { Put text.old at (word_text n) text.new result }
 {
-    let others = decimal_length(n) - 1;
-    let mut power = 10u64.pow(others as u32);
+    let mut power = highest_power(n);
     let mut left = n;
-    for i in 0..others {
+    let mut i = 0;
+    while 1 < power {
         text[at + i] = b'0' + ((left / power) as u8);
         left %= power;
         power /= 10;
+        i += 1;
     }
-    text[at + others] = b'0' + (left as u8);
-    at + others + 1
+    text[at + i] = b'0' + (left as u8);
+    at + i + 1
 }
 
 // Writes a number, with a minus before a negative, and answers the position after it.
