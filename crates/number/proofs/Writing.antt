@@ -57,10 +57,6 @@ part_written {A} before at {xs} {part} {size} room same is =
     ∙ ap (λ (ys : List A). take at before ++ ys ++ drop (at + length xs) before) (take-length xs)
     ∙ sym (sets-eq xs before at room)
 
-pub put_copied : {before bytes part : List ℕ} {at : ℕ} → at + length bytes ≤ length before → part ≡ bytes
-    → Put before at bytes (put_mid at (at + length bytes - at) before part) (at + length bytes)
-put_copied {before} {at = at} room same = record { end = refl; buffer = part_written before at room same (omega arith) }
-
 -- the first i bytes were put
 pub record Copying (before : List ℕ) (at : ℕ) (bytes text : List ℕ) (i : ℕ) : Type 0 where
   pub within : i ≤ length bytes
