@@ -12,8 +12,7 @@ use lib.Dec.{ltb}
 use lib.IntN.{ℤ, pos, negsuc}
 use lib.ListN.{length, get_or, length-append, get_or-append}
 use lib.Seq.{get_or_at}
-use Rattle.std.specs.Option.{unwrap_or}
-use Rattle.std.specs.Prelude.{if◌then◌else◌, Option, None, Some, IfNone, IfSome}
+use Rattle.std.specs.Prelude.{if◌then◌else◌}
 use Rattle.rules.specs.Text.{digit, decimal_in, decimal, number_text}
 use Rattle.rules.proofs.Numbers.{few_digits}
 use Rattle.rules.specs.Listing.{word_text}
@@ -81,12 +80,6 @@ below_size n l = go (dec_lt n (10 ^ length (word_text n)))
     go : Dec (n < 10 ^ length (word_text n)) → n < 10 ^ length (word_text n)
     go (yes h) = h
     go (no h) = absurd (omega (arith, more_than (length (word_text n)) n l (omega arith)))
-
--- as many as the highest power of ten tells that is not above it; 0 has none, and one digit
-pub power_digits : (n : ℕ) (power : Option ℕ) → n < 10 ^ 20 → IfNone power (n ≡ 0) → IfSome power (λ k. 10 ^ k ≤ n) → IfSome power (λ k. n < 10 * 10 ^ k)
-    → IfSome power (λ k. k < 20) → unwrap_or power 0 + 1 ≡ length (word_text n)
-power_digits n None l nought reached above few = sym (ap length (one_digit n (omega arith)))
-power_digits n (Some k) l nought reached above few = omega (arith, more_than k n l reached, no_more_than k n few (omega (arith, pow-suc 10 k)))
 
 -- the digit that k others follow
 pub digit_at : (k n i : ℕ) → n < 10 ^ 20 → i + suc k ≡ length (word_text n) → get_or (word_text n) i 0 ≡ digit (n / 10 ^ k % 10)

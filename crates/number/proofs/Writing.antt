@@ -1,6 +1,6 @@
 -- How bytes, and the digits of a number, are put into a buffer, one after the other. Assumes nothing.
 use Prim.Native.Nat.{ℕ, zero, suc, ◌+◌, ◌-◌, ◌*◌, ◌/◌, ◌%◌, ◌^◌, ◌≤◌, ◌<◌}
-use native.Mathlib.Nat.{add-zero, zero-add, pow-suc, pow-succ', one-le-pow, mod-eq_of_lt, div-one}
+use native.Mathlib.Nat.{add-zero, zero-add, pow-suc, pow-succ', one-le-pow, le_refl, mod-lt, mod-eq_of_lt, div-one, div-lt_iff_lt-mul}
 use native.Mathlib.Numerals.{add-one}
 use native.Mathlib.Omega.{arith}
 use mathlib.Core.List.{List, [], ◌∷◌, ◌++◌}
@@ -57,10 +57,6 @@ part_written {A} before at {xs} {part} {size} room same is =
     ∙ ap (λ (ys : List A). take at before ++ ys ++ drop (at + length xs) before) (take-length xs)
     ∙ sym (sets-eq xs before at room)
 
-pub put_copied : {before bytes part : List ℕ} {at : ℕ} → at + length bytes ≤ length before → part ≡ bytes
-    → Put before at bytes (put_mid at (at + length bytes - at) before part) (at + length bytes)
-put_copied {before} {at = at} room same = record { end = refl; buffer = part_written before at room same (omega arith) }
-
 -- the first i bytes were put
 pub record Copying (before : List ℕ) (at : ℕ) (bytes text : List ℕ) (i : ℕ) : Type 0 where
   pub within : i ≤ length bytes
@@ -108,11 +104,15 @@ module _ {n : ℕ} {before : List ℕ} {at : ℕ} {text : List ℕ} {i power lef
   not_spelt : i < length (word_text n)
   not_spelt = omega (arith, s.size)
 
-  pub some_power : 0 < power
+  some_power : 0 < power
   some_power = subst (λ (p : ℕ). 0 < p) (sym s.power_is) (one-le-pow s.others 10 (omega arith))
 
   next_digit : left / power ≡ n / power % 10
   next_digit = ap (λ (m : ℕ). m / power) s.left_is ∙ goes_into n some_power
+
+  -- the power goes into what is left, and into less, at most nine times
+  at_most_nine : {x : ℕ} → x ≤ left → x / power < 10
+  at_most_nine h = (div-lt_iff_lt-mul some_power).1 (omega (arith, s.left_is, mod-lt n {m = 10 * power} (omega (arith, some_power))))
 
   digit_put : n < 10 ^ 20 → Copying before at (word_text n) (set text (at + i) (digit (left / power))) (i + 1)
   digit_put fits =
@@ -120,7 +120,7 @@ module _ {n : ℕ} {before : List ℕ} {at : ℕ} {text : List ℕ} {i power lef
       subst (λ (d : ℕ). Copying before at (word_text n) (set text (at + i) d) (i + 1)) next (one_copied s.copying not_spelt)
 
   -- what is divided has to be what is left
-  pub one_spelt : n < 10 ^ 20 → i + 1 < length (word_text n) → {x : ℕ} → x ≡ left
+  pub one_spelt : n < 10 ^ 20 → 1 < power → {x : ℕ} → x ≡ left
       → Spelling n before at (set text (at + i) (digit (x / power))) (i + 1) (power / 10) (left % power)
   one_spelt fits h {x} same = go s.others s.size s.power_is
     where
@@ -139,14 +139,20 @@ module _ {n : ℕ} {before : List ℕ} {at : ℕ} {text : List ℕ} {i power lef
           }
 
   -- the last digit is all that is left
-  module _ (last : i + 1 ≡ length (word_text n)) where
-    last_power : power ≡ 1
-    last_power = let none : s.others ≡ 0 = omega (arith, s.size) in s.power_is ∙ ap (λ (k : ℕ). 10 ^ k) none
+  last_alone : power ≤ 1 → s.others ≡ 0
+  last_alone h = go s.others s.power_is
+    where
+      go : (k : ℕ) → power ≡ 10 ^ k → k ≡ 0
+      go zero is = refl
+      go (suc k) is = absurd (omega (arith, pow-suc 10 k, one-le-pow k 10 (omega arith)))
 
-    last_whole : left / power ≡ left
-    last_whole = ap (λ (p : ℕ). left / p) last_power ∙ div-one left
+  last_whole : power ≤ 1 → left / power ≡ left
+  last_whole h = let one : power ≡ 1 = omega (arith, some_power) in ap (λ (p : ℕ). left / p) one ∙ div-one left
 
-    pub all_spelt : n < 10 ^ 20 → Put before at (word_text n) (set text (at + i) (digit left)) (at + i + 1)
-    all_spelt fits =
-        let p = all_copied (digit_put fits) (omega arith) in
-        record { end = omega (arith, p.end); buffer = rw last_whole at p.buffer }
+  pub nine_left : power ≤ 1 → left < 10
+  nine_left h = omega (arith, last_whole h, at_most_nine (le_refl left))
+
+  pub all_spelt : n < 10 ^ 20 → power ≤ 1 → Put before at (word_text n) (set text (at + i) (digit left)) (at + i + 1)
+  all_spelt fits h =
+      let p = all_copied (digit_put fits) (omega (arith, s.size, last_alone h)) in
+      record { end = omega (arith, p.end); buffer = rw (last_whole h) at p.buffer }

@@ -7,19 +7,19 @@ use mathlib.Core.List.{List, [], ◌∷◌, ◌++◌, flat_map, append-nil, appe
 use mathlib.Core.Path.{◌≡◌, refl, sym, ap, subst, ◌∙◌}
 use lib.Dec.{eqb}
 use lib.IntN.{ℤ, pos, negsuc, nat_abs}
-use lib.ListN.{length, get_or, take, drop, set, length-append, length-drop, length-set}
-use lib.Seq.{drop-drop, drop-cons, drop-append_seam, take-suc, take-suc-set, take_all, sets}
+use lib.ListN.{length, get_or, take, drop, set, length-append, length-drop, take-append-drop, length-set}
+use lib.Seq.{drop-drop, drop-cons, drop-append_seam, take-suc, take-suc-set, take_all, take-append_seam, sets}
 use borrow.Rule.Slice.PartMut.{put_mid}
 use denote.Enum.Declared.{tag_of}
 use mir.Syntax.{w32}
 use mir.Val.{to_z, of_z}
-use Rattle.std.specs.Bool.{then_some}
-use Rattle.std.specs.List.{starts_with}
+use Rattle.std.specs.Bool.{Decides, then_some}
+use Rattle.std.specs.Cmp.Lexicographic.{pointwise}
 use Rattle.std.specs.Int.{FitsUnsignedBits}
 use Rattle.std.specs.Prelude.{Option, None, Some, Result, Ok, Err, OkIff}
 use Rattle.std.specs.Result.{result_ok}
 use Rattle.std.proofs.lemmas.Bool.Decides.{Decides-eqb}
-use Rattle.std.proofs.lemmas.Slice.Eq.{starts_is}
+use Rattle.std.proofs.lemmas.Slice.Eq.{slice_eq-Decides}
 use Rattle.ground.specs.Lists.{All}
 use Rattle.ground.proofs.Branches.{false_true}
 use Rattle.ground.proofs.Lists.{all_append, all_at, flat_map_append}
@@ -112,28 +112,25 @@ is_size (negsuc n) h = absurd h
 module _ (text : List ℕ) (at : ℕ) where
   -- ---- bytes that are given
 
-  pub bytes_read : (bytes : List ℕ) {begins : Bool} {o : Option ℕ} → at ≤ length text → begins ≡ starts_with eqb (take (length text - at) (drop at text)) bytes
-      → o ≡ then_some begins (at + length bytes) → ReadsBytes bytes text at o
-  bytes_read bytes {begins} {o} l says answer =
-      let rest : take (length text - at) (drop at text) ≡ drop at text = take_all (length text - at) (drop at text) (omega (arith, length-drop at text)) in
-      let its = says ∙ ap (λ (bs : List ℕ). starts_with eqb bs bytes) rest in
-      go begins (starts_is Decides-eqb (drop at text) bytes begins its) answer
+  pub no_room : {bytes : List ℕ} → at ≤ length text → length text - at < length bytes → NoBytes bytes text at
+  no_room {bytes} l h = record { none = λ u rest p f e. omega (arith, ap length e, length-append bytes rest, length-drop at text) }
+
+  pub bytes_read : (bytes : List ℕ) {right : Bool} {o : Option ℕ} → at + length bytes ≤ length text
+      → right ≡ pointwise eqb (take (at + length bytes - at) (drop at text)) bytes → o ≡ then_some right (at + length bytes) → ReadsBytes bytes text at o
+  bytes_read bytes {right} {o} inside says answer = go right (slice_eq-Decides Decides-eqb (take (at + length bytes - at) (drop at text)) bytes right says) answer
     where
-      go : (b : Bool)
-          → (b ≡ true → drop at text ≡ bytes ++ drop (length bytes) (drop at text)) × ((rest : List ℕ) → drop at text ≡ bytes ++ rest → b ≡ true)
-          → o ≡ then_some b (at + length bytes) → ReadsBytes bytes text at o
-      go false begun is = rw is (record { none = λ u rest p f e. false_true (begun.1 rest e) })
-      go true begun is =
-          let split = begun.0 refl in
-          let size = length-append bytes (drop (length bytes) (drop at text)) in
-          rw is (record {
-            proper = tt;
-            stood = record {
-              inside = omega (arith, ap length split, size, length-drop at text);
-              split = split ∙ ap (λ (rest : List ℕ). bytes ++ rest) (drop-drop (length bytes) at text);
-            };
-            only = λ u rest p f e. (refl, refl);
-          })
+      size : at + length bytes - at ≡ length bytes
+      size = omega arith
+
+      go : (b : Bool) → Decides b (take (at + length bytes - at) (drop at text) ≡ bytes) → o ≡ then_some b (at + length bytes) → ReadsBytes bytes text at o
+      go false same is = rw is (record {
+        none = λ u rest p f e. false_true (same.1 (ap (λ (n : ℕ). take n (drop at text)) size ∙ ap (take (length bytes)) e ∙ take-append_seam bytes rest));
+      })
+      go true same is =
+          let rest = drop-drop (length bytes) at text in
+          let split = sym (take-append-drop (length bytes) (drop at text))
+          ∙ (λ i. (ap (λ (n : ℕ). take n (drop at text)) (sym size) ∙ same.0 refl) i ++ rest i) in
+          rw is (record { proper = tt; stood = record { inside = inside; split = split }; only = λ u rest p f e. (refl, refl) })
 
   -- ---- a kind's name
 

@@ -40,7 +40,12 @@ fn read_bytes(text: &[u8], at: usize, bytes: &[u8]) -> Option<usize>
     requires { at ≤ length text.now }
     ensures { ReadsBytes bytes.now text.now at result }
 {
-    text[at..].starts_with(bytes).then_some(at + bytes.len())
+    if text.len() - at < bytes.len() {
+        return None;
+    }
+    let next = at + bytes.len();
+    let right = &text[at..next] == bytes;
+    right.then_some(next)
 }
 
 // The kind that is named. No name begins another, so at most one stands there.
