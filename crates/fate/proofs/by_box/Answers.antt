@@ -7,7 +7,6 @@ use mir.Syntax.{w32}
 use mir.Val.{to_z, of_z}
 use Rattle.solid.proofs.Ends.{as_read}
 use Rattle.fate.proofs.by_box.Lts as lts
-use Rattle.fate.proofs.by_box.Tie as tie
 use Rattle.fate.proofs.by_box.Reads as reads
 use Rattle.fate.proofs.by_box.Goals as goal
 
