@@ -54,3 +54,9 @@ returns c =
     let a = c.args in
     let one = rising a.a a.b a.x a.y c.requires.a_value c.requires.x_value in
     (sub_num one (falling a.a a.b a.x a.y c.requires.a_value c.requires.x_value) tt).reads
+
+pub overflow_sub-result-2 : goal.overflow_sub-result-2
+overflow_sub-result-2 c = sub_fits (corner_y c.args.b c.requires.a_value.1) (even 32767 {v = c.args.y} c.requires.x_value.1 tt) tt
+
+pub overflow_sub-result-4 : goal.overflow_sub-result-4
+overflow_sub-result-4 c = sub_fits (corner_y c.args.a c.requires.a_value.0) (even 32767 {v = c.args.y} c.requires.x_value.1 tt) tt

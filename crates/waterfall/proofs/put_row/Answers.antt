@@ -9,13 +9,14 @@ use mir.Val.{SFits, to_z, of_z}
 use mir.ValLaws.{to_z-of_z}
 use Rattle.ground.specs.Lists.{from}
 use Rattle.ground.proofs.Num.{Num, known, unsigned, add_num}
-use Rattle.ground.proofs.Signed.{read}
+use Rattle.ground.proofs.Signed.{reread, read}
 use Rattle.ground.proofs.Writes.{one_more}
 use Rattle.rules.specs.ListInside.{inside_list}
 use Rattle.rules.specs.ListWords.{list_window}
-use Rattle.rules.specs.Ranges.{within, columns}
+use Rattle.rules.specs.Ranges.{within, columns, codes}
 use Rattle.rules.specs.Table.{primitives}
 use Rattle.rules.specs.Waterfall.{place_word}
+use Rattle.laws.proofs.Spaces.{by_axis}
 use Rattle.laws.proofs.Spans.{even_span}
 use Rattle.waterfall.proofs.put_row.Goals as goal
 
@@ -30,6 +31,14 @@ column_is xlo i f h few =
 pub loop-i-init : goal.loop-i-init
 unfolding from
 loop-i-init c = refl
+
+pub newest_at-requires-clause-p_value : goal.newest_at-requires-clause-p_value
+newest_at-requires-clause-p_value c =
+    let a = c.args in
+    let i = c.loop-i.i in
+    let few : i ≤ 128 = omega (arith, c.loop-i-test.true, c.requires.width_le_most_side.0) in
+    let is = column_is a.xlo i c.ranges.xlo (c.requires.columns_in_range 0 (omega (arith, c.loop-i-test.true))) few in
+    by_axis (ap (within columns) is ∙ c.requires.columns_in_range i c.loop-i-test.true) (reread w32 (within codes) c.ranges.y c.requires.y_value) refl
 
 pub loop-i-preserved : goal.loop-i-preserved
 loop-i-preserved c =
