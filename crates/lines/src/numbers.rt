@@ -1,157 +1,109 @@
-// The numbers of a line, from a position on.
-ghost use Rattle.std.specs.Prelude.{◌≤◌, ◌<◌, ◌≡◌, length};
+// The numbers of a line, each with the space before it.
+ghost use Rattle.std.specs.Prelude.{◌≤◌, ◌<◌, length, IfOk};
 
-use crate::Filled;
-use number::Number;
+use crate::Fault;
 use rules::Window;
+use std::str;
 
-// A window, and whether it was read right.
-#[derive(Clone, Copy)]
-pub struct Bounds {
-    pub right: bool,
-    pub window: Window,
+// What a word of a line can be.
+pub trait FromWord: Copy {
+    // The value that a whole word is, if it is one.
+    fn from_word(word: &[u8]) -> Result<Self, Fault>;
 }
 
-// What was read is not right; so many places are filled all the same.
-pub fn wrong(count: usize) -> Filled
-    ensures { result.count ≡ count }
-{
-    Filled {
-        right: false,
-        count,
+impl FromWord for i32 {
+    fn from_word(word: &[u8]) -> Result<i32, Fault> {
+        let number = number::read_number(word, 0);
+        if number.right && number.next == word.len() {
+            Ok(number.value)
+        } else {
+            Err(Fault)
+        }
     }
 }
 
-// What was read up to a position; right if the line ends there, or the text.
-pub fn ended(text: &[u8], at: usize, count: usize) -> Filled
-    ensures { result.count ≡ count }
-{
-    if text.len() <= at {
-        return Filled { right: true, count };
+// A word of a list: digits, and no sign.
+impl FromWord for u64 {
+    fn from_word(word: &[u8]) -> Result<u64, Fault> {
+        match word {
+            [b'0'..=b'9', ..] => {
+                let digits = str::from_utf8(word).map_err(|_| Fault)?;
+                digits.parse::<u64>().map_err(|_| Fault)
+            }
+            _ => Err(Fault),
+        }
     }
-    let right = text[at] == b'\n';
-    Filled { right, count }
 }
 
 // A number as a size, 0 for a negative one.
 pub fn size_of(v: i32) -> usize {
-    if v < 0 {
-        return 0;
-    }
-    v as usize
+    usize::try_from(v).unwrap_or(0)
 }
 
-// The number after the space at a position; it is not right where there is none.
-fn number_after(text: &[u8], at: usize) -> Number {
-    let none = Number {
-        right: false,
-        value: 0,
-        next: at,
-    };
-    if text.len() <= at {
-        return none;
-    }
-    if text[at] != b' ' {
-        return none;
-    }
-    number::read_number(text, at + 1)
-}
-
-// Writes the numbers of a line after those that are there. At the text's end there are none.
-pub fn read_numbers(text: &[u8], at: usize, into: &mut [i32], before: usize) -> Filled
-    requires { before ≤ length into.old }
-    ensures { result.count ≤ length into.new }
+// Writes the words of a line, and answers how many there are. They are not right if there is no place for one.
+pub fn read_all<T: FromWord>(rest: &[u8], into: &mut [T]) -> Result<usize, Fault>
+    ensures { IfOk result (λ count. count ≤ length into.new) }
 {
-    let mut count = before;
-    let mut next = at;
-    while count < into.len() {
-        let number = number_after(text, next);
-        if !number.right {
-            return ended(text, next, count);
+    let mut count: usize = 0;
+    let mut left = rest;
+    while let Some((word, next)) = crate::next_word(left) {
+        if into.len() <= count {
+            return Err(Fault);
         }
-        let value = number.value;
-        into[count] = value;
+        into[count] = T::from_word(word)?;
         count += 1;
-        next = number.next;
+        left = next;
     }
-    ended(text, next, count)
+    Ok(count)
 }
 
-// Reads the numbers of a line, and answers whether they are just as many as there are places.
-pub fn read_just(text: &[u8], at: usize, into: &mut [i32]) -> bool {
-    let read = read_numbers(text, at, into, 0);
-    read.right & (read.count == into.len())
-}
-
-fn is_code(v: i32) -> bool {
-    (-32768 <= v) & (v <= 32767)
-}
-
-// A number as a code, brought between the least and the greatest.
-fn code(v: i32) -> i16 {
-    if v <= -32768 {
-        return -32768;
+// The numbers of a line, if they are just so many.
+pub fn read_just<const N: usize>(rest: &[u8]) -> Result<[i32; N], Fault> {
+    let mut numbers: [i32; N] = [0; N];
+    if read_all(rest, &mut numbers)? == N {
+        Ok(numbers)
+    } else {
+        Err(Fault)
     }
-    if 32767 <= v {
-        return 32767;
-    }
-    v as i16
 }
 
-// The number at a place, where some numbers follow one another over and over.
-fn over_and_over(numbers: &[i32], place: usize) -> i32
-    requires { 0 < length numbers.now }
-{
-    numbers[place % numbers.len()]
-}
-
-// Writes these codes, over and over, into all places, and answers whether each of them is one.
-fn repeat(codes: &[i32], into: &mut [i16]) -> bool
-    requires { 0 < length codes.now }
-{
-    let mut right = true;
-    let mut k: usize = 0;
-    while k < into.len() {
-        let v = over_and_over(codes, k);
-        into[k] = code(v);
-        right = right & is_code(v);
-        k += 1;
+// Writes these codes, over and over, into all places, if each of them is one.
+fn repeat(codes: &[i32], into: &mut [i16]) -> Result<(), Fault> {
+    for (place, code) in into.iter_mut().zip(codes.iter().cycle()) {
+        *place = i16::try_from(*code).map_err(|_| Fault)?;
     }
-    right
+    Ok(())
 }
 
 // Writes the samples of a frame: their number is a line's first, and their codes are the others, over and over.
-pub fn read_frame(text: &[u8], at: usize, into: &mut [i16]) -> Filled
-    ensures { result.count ≤ length into.new }
+pub fn read_frame(rest: &[u8], into: &mut [i16]) -> Result<usize, Fault>
+    ensures { IfOk result (λ count. count ≤ length into.new) }
 {
-    let mut n: [i32; 33] = [0; 33];
-    let read = read_numbers(text, at, &mut n, 0);
-    let last = read.count;
-    let count = size_of(n[0]);
-    if last < 2 {
-        return wrong(0);
+    let mut numbers: [i32; 33] = [0; 33];
+    let read = read_all(rest, &mut numbers)?;
+    let [samples, codes @ ..] = &numbers[..read] else {
+        return Err(Fault);
+    };
+    let count = size_of(*samples);
+    if codes.is_empty() || into.len() < count {
+        return Err(Fault);
     }
-    if into.len() < count {
-        return wrong(0);
-    }
-    let right = repeat(&n[1..last], &mut into[0..count]);
-    Filled {
-        right: right & read.right,
-        count,
-    }
+    repeat(codes, &mut into[..count])?;
+    Ok(count)
 }
 
-// The window that a line's numbers give, and whether they are six.
-pub fn read_window(text: &[u8], at: usize) -> Bounds {
-    let mut n: [i32; 6] = [0; 6];
-    let right = read_just(text, at, &mut n);
-    let window = Window {
-        xlo: n[0],
-        xhi: n[1],
-        ylo: n[2],
-        yhi: n[3],
-        zlo: n[4],
-        zhi: n[5],
-    };
-    Bounds { right, window }
+// The window that a line's numbers give.
+pub fn read_window(rest: &[u8]) -> Result<Window, Fault> {
+    Ok(window_of(read_just(rest)?))
+}
+
+pub fn window_of([xlo, xhi, ylo, yhi, zlo, zhi]: [i32; 6]) -> Window {
+    Window {
+        xlo,
+        xhi,
+        ylo,
+        yhi,
+        zlo,
+        zhi,
+    }
 }

@@ -6,36 +6,23 @@ use Rattle.fate.proofs.FirstWays.{nothing_told}
 use Rattle.telling.proofs.tell_ways.Goals as goal
 
 pub ways-ways-requires : goal.ways-ways-requires
-ways-ways-requires c =
-    let at_number_rows = c.before.before.before in
-    let s = at_number_rows.before.before.before in record {
-      sound = s.requires.sound;
-      numbered = at_number_rows.number_rows.ensures.1;
-      remembered = nothing_remembered s.args.table.now;
-    }
+ways-ways-requires g c = record {
+  sound = c.requires.sound;
+  numbered = c.number_rows.ensures.1;
+  remembered = nothing_remembered c.args.table.now;
+}
 
 pub loop-k-init : goal.loop-k-init
-loop-k-init c =
-    let at_number_rows = c.before.before.before.before in
-    let s = at_number_rows.before.before.before in
-    (c.ways-ways.ensures.1, nothing_told s.requires.each_once s.requires.list_bound (length-replicate {A = ℕ} 65536 0))
+loop-k-init g c = (c.ways-ways.ensures.1, nothing_told c.requires.each_once c.requires.list_bound (length-replicate {A = ℕ} 65536 0))
 
 pub tell_way-way-requires : goal.tell_way-way-requires
-tell_way-way-requires c =
-    let i = c.before.before.before.before in
-    let l = i.loop-k in
-    let ways = i.before.before in
-    let rows = ways.before.before.before in
-    let s = rows.before.before.before in record {
-      sound = s.requires.sound;
-      numbered = rows.number_rows.ensures.1;
-      remembered = l.invariant.0;
-      k_bound = omega (arith, i.loop-k-test.true, ways.ways-ways.ensures.0);
-      told_to = l.invariant.1;
-    }
-
-pub loop-k-smaller : goal.loop-k-smaller
-loop-k-smaller c = omega arith
+tell_way-way-requires g c = record {
+  sound = c.requires.sound;
+  numbered = c.number_rows.ensures.1;
+  remembered = c.loop-k.invariant.0;
+  k_bound = omega (arith, c.ways-ways.ensures.0);
+  told_to = c.loop-k.invariant.1;
+}
 
 pub loop-k-preserved : goal.loop-k-preserved
-loop-k-preserved c = (c.tell_way-way.ensures.remembered_2, c.tell_way-way.ensures.told_to_2)
+loop-k-preserved g c = (c.tell_way-way.ensures.remembered_2, c.tell_way-way.ensures.told_to_2)
