@@ -61,20 +61,12 @@ impl fmt::Display for Counts {
     }
 }
 
-// The lines that set the coordinates of each axis, each from its word on.
+// Something of each axis: the coordinates that are set, or the line that sets them, from its word on.
 #[derive(Clone, Copy)]
-pub struct Axes<'a> {
-    pub columns: &'a [u8],
-    pub codes: &'a [u8],
-    pub frames: &'a [u8],
-}
-
-// The coordinates of each axis, of which all points are asked.
-#[derive(Clone, Copy)]
-struct Grid<'a> {
-    columns: &'a [i32],
-    codes: &'a [i32],
-    frames: &'a [i32],
+pub struct Axes<'a, T> {
+    pub columns: &'a [T],
+    pub codes: &'a [T],
+    pub frames: &'a [T],
 }
 
 // A list and the table of the zone that it is of.
@@ -84,7 +76,7 @@ struct Pair<'a> {
     list: &'a [u64],
 }
 
-// What a refusal of a point says: the axis on which it is out of the window, where it is refused for that.
+// What a refusal says: the axis on which a point is out of the window, where it is refused for that.
 fn refusal_told(refusal: Refusal) -> Finding {
     match (refusal.number, refusal.value) {
         (10, 0) => Finding::OutByColumn,
@@ -94,6 +86,7 @@ fn refusal_told(refusal: Refusal) -> Finding {
     }
 }
 
+// What an answer about a point says.
 fn told(answer: Located) -> Finding {
     match answer {
         Located::Outside => Finding::Outside,
@@ -114,6 +107,7 @@ fn find(pair: Pair<'_>, point: Point) -> Finding {
     }
 }
 
+// Asks at each column, at one code of one frame.
 fn ask_columns(pair: Pair<'_>, columns: &[i32], code: i32, frame: i32, counts: &mut Counts) {
     for column in columns {
         let point = Point {
@@ -125,28 +119,30 @@ fn ask_columns(pair: Pair<'_>, columns: &[i32], code: i32, frame: i32, counts: &
     }
 }
 
-fn ask_codes(pair: Pair<'_>, grid: Grid<'_>, frame: i32, counts: &mut Counts) {
-    for code in grid.codes {
-        ask_columns(pair, grid.columns, *code, frame, counts);
+// Asks at each column and code of one frame.
+fn ask_codes(pair: Pair<'_>, axes: Axes<'_, i32>, frame: i32, counts: &mut Counts) {
+    for code in axes.codes {
+        ask_columns(pair, axes.columns, *code, frame, counts);
     }
 }
 
-fn ask_all(pair: Pair<'_>, grid: Grid<'_>) -> Counts {
+// Asks at each point.
+fn ask_all(pair: Pair<'_>, axes: Axes<'_, i32>) -> Counts {
     let mut counts = Counts::default();
-    for frame in grid.frames {
-        ask_codes(pair, grid, *frame, &mut counts);
+    for frame in axes.frames {
+        ask_codes(pair, axes, *frame, &mut counts);
     }
     counts
 }
 
 // Makes the list of a window and compares it, or tells why there is none.
-fn compare_list(rt: &impl Print, table: &[i32], window: Window, grid: Grid<'_>) {
+fn compare_list(rt: &impl Print, table: &[i32], window: Window, axes: Axes<'_, i32>) {
     // room for 12 products: a zone that has more is told as refused
     let mut list: [u64; 32] = [0; 32];
     match zone::make_list(table, window, &mut list) {
         Written::Wrote(_) => {
             let products = list[0];
-            let counts = ask_all(Pair { table, list: &list }, grid);
+            let counts = ask_all(Pair { table, list: &list }, axes);
             say(rt, format_args!("{products}{counts}"));
         }
         Written::Refused(refusal) => answers::refused(rt, refusal),
@@ -165,20 +161,20 @@ pub fn compare(
     rt: &impl Print,
     table: &[i32],
     window: Window,
-    axes: Axes<'_>,
+    lines: Axes<'_, u8>,
 ) -> Result<(), Fault> {
     let mut columns: [i32; 64] = [0; 64];
     let mut codes: [i32; 64] = [0; 64];
     let mut frames: [i32; 64] = [0; 64];
-    let column_count = read_axis(axes.columns, &mut columns);
-    let code_count = read_axis(axes.codes, &mut codes);
-    let frame_count = read_axis(axes.frames, &mut frames);
-    let grid = Grid {
+    let column_count = read_axis(lines.columns, &mut columns);
+    let code_count = read_axis(lines.codes, &mut codes);
+    let frame_count = read_axis(lines.frames, &mut frames);
+    let axes = Axes {
         columns: &columns[..column_count],
         codes: &codes[..code_count],
         frames: &frames[..frame_count],
     };
-    compare_list(rt, table, window, grid);
+    compare_list(rt, table, window, axes);
     if column_count == 0 || code_count == 0 || frame_count == 0 {
         Err(Fault)
     } else {

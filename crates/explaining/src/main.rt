@@ -3,7 +3,7 @@
 
 #![tactic(auto)]
 
-use lines::numbers::FromWord;
+use lines::numbers::FromStart;
 use rules::Window;
 use std::env::{Env, FillError};
 
@@ -12,7 +12,10 @@ fn bound(rt: &HostRuntime, i: usize) -> i32 {
     let mut word: [u8; 16] = [0; 16];
     // one that is missing, or longer than any such number, is read as an empty one
     let size = rt.arg(i, &mut word).unwrap_or(0);
-    i32::from_word(&word[..size]).unwrap_or(i32::MAX)
+    match i32::from_start(&word[..size]) {
+        Some((value, [])) => value,
+        _ => i32::MAX,
+    }
 }
 
 fn has_arguments(rt: &HostRuntime) -> bool {

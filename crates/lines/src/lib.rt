@@ -8,7 +8,6 @@ pub mod answers;
 pub mod numbers;
 pub mod rows;
 
-ghost use Rattle.std.specs.Prelude.{◌<◌, ◌≤◌, length, IfSome};
 ghost use Rattle.io.specs.Counts.{IsPrefixLen};
 
 use std::fmt::Display;
@@ -54,21 +53,9 @@ pub fn without_end(line: &[u8]) -> &[u8] {
 }
 
 // The word that a text begins with, and what follows it, from the space on.
-pub fn split_word(text: &[u8]) -> (&[u8], &[u8])
-    ensures { length result.1.now ≤ length text.now }
-{
+pub fn split_word(text: &[u8]) -> (&[u8], &[u8]) {
     let end = text.iter().position(|b| *b == b' ').unwrap_or(text.len());
     text.split_at(end)
-}
-
-// The word after the space that a text begins with, and what follows it; none where no space stands.
-fn next_word(text: &[u8]) -> Option<(&[u8], &[u8])>
-    ensures { IfSome result (λ parts. length parts.1.now < length text.now) }
-{
-    match text {
-        [b' ', word @ ..] => Some(split_word(word)),
-        _ => None,
-    }
 }
 
 // Prints; a write that fails is passed over.

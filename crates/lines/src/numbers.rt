@@ -1,37 +1,35 @@
 // The numbers of a line, each with the space before it.
-ghost use Rattle.std.specs.Prelude.{◌≤◌, ◌<◌, length, IfOk};
+ghost use Rattle.std.specs.Prelude.{◌≤◌, length, IfOk, IfSome};
 
 use crate::Fault;
 use rules::Window;
 use std::str;
 
-// What a word of a line can be.
-pub trait FromWord: Copy {
-    // The value that a whole word is, if it is one.
-    fn from_word(word: &[u8]) -> Result<Self, Fault>;
+// What can stand after a space of a line.
+pub trait FromStart: Copy {
+    // The value that a text begins with, and what follows it.
+    fn from_start(text: &[u8]) -> Option<(Self, &[u8])>
+        ensures { IfSome result (λ found. length found.1.now ≤ length text.now) };
 }
 
-impl FromWord for i32 {
-    fn from_word(word: &[u8]) -> Result<i32, Fault> {
-        let number = number::read_number(word, 0);
-        if number.right && number.next == word.len() {
-            Ok(number.value)
-        } else {
-            Err(Fault)
+// A number of the rules.
+impl FromStart for i32 {
+    fn from_start(text: &[u8]) -> Option<(i32, &[u8])> {
+        let number = number::read_number(text, 0);
+        if !number.right {
+            return None;
         }
+        Some((number.value, text.get(number.next..)?))
     }
 }
 
-// A word of a list: digits, and no sign.
-impl FromWord for u64 {
-    fn from_word(word: &[u8]) -> Result<u64, Fault> {
-        match word {
-            [b'0'..=b'9', ..] => {
-                let digits = str::from_utf8(word).map_err(|_| Fault)?;
-                digits.parse::<u64>().map_err(|_| Fault)
-            }
-            _ => Err(Fault),
-        }
+// A word of a list: digits, as far as they go.
+impl FromStart for u64 {
+    fn from_start(text: &[u8]) -> Option<(u64, &[u8])> {
+        let end = text.iter().position(|b| !b.is_ascii_digit());
+        let (digits, rest) = text.split_at(end.unwrap_or(text.len()));
+        let value = str::from_utf8(digits).ok()?.parse::<u64>().ok()?;
+        Some((value, rest))
     }
 }
 
@@ -40,21 +38,26 @@ pub fn size_of(v: i32) -> usize {
     usize::try_from(v).unwrap_or(0)
 }
 
-// Writes the words of a line, and answers how many there are. They are not right if there is no place for one.
-pub fn read_all<T: FromWord>(rest: &[u8], into: &mut [T]) -> Result<usize, Fault>
+// Writes the values of a line, each with a space before it, and answers how many there are. They are not right if there is no place for one.
+pub fn read_all<T: FromStart>(rest: &[u8], into: &mut [T]) -> Result<usize, Fault>
     ensures { IfOk result (λ count. count ≤ length into.new) }
 {
     let mut count: usize = 0;
     let mut left = rest;
-    while let Some((word, next)) = crate::next_word(left) {
+    while let [b' ', text @ ..] = left {
         if into.len() <= count {
             return Err(Fault);
         }
-        into[count] = T::from_word(word)?;
+        let (value, after) = T::from_start(text).ok_or(Fault)?;
+        into[count] = value;
         count += 1;
-        left = next;
+        left = after;
     }
-    Ok(count)
+    if left.is_empty() {
+        Ok(count)
+    } else {
+        Err(Fault)
+    }
 }
 
 // The numbers of a line, if they are just so many.

@@ -11,8 +11,14 @@ enum Call {
     TreePoint(Point),
     ListPoint(Point),
     Search(Search),
-    ListWaterfall(Rectangle, Area<16400>),
-    RewriteTree(Area<24600>, Area<24600>),
+    ListWaterfall {
+        rectangle: Rectangle,
+        picture: Area<16400>,
+    },
+    RewriteTree {
+        tree: Area<24600>,
+        work: Area<24600>,
+    },
     MakeList(Area<256>),
     WriteText(Area<512>),
     Compare(Window),
@@ -23,7 +29,15 @@ enum Call {
 enum Search {
     Tree(Place),
     List(Place),
-    Frames(usize, Place, Area<16>),
+    Frames(Screen),
+}
+
+// So many frames end to end, where the first of them stands, and the area of their triples.
+#[derive(Clone, Copy)]
+struct Screen {
+    frames: usize,
+    place: Place,
+    triples: Area<16>,
 }
 
 // The call of a line, if the line has the numbers of one.
@@ -37,16 +51,22 @@ fn call_of(line: Line<'_>) -> Result<Call, Fault> {
         (b"tree_search", &[first, frame]) => Call::Search(Search::Tree(Place { first, frame })),
         (b"list_search", &[first, frame]) => Call::Search(Search::List(Place { first, frame })),
         (b"list_search_frames", &[frames, first, frame, room, of]) => {
-            let frames = numbers::size_of(frames);
-            let place = Place { first, frame };
-            Call::Search(Search::Frames(frames, place, Area::read(room, of)?))
+            let triples = Area::read(room, of)?;
+            Call::Search(Search::Frames(Screen {
+                frames: numbers::size_of(frames),
+                place: Place { first, frame },
+                triples,
+            }))
         }
         (b"list_waterfall", &[xlo, xhi, ylo, yhi, room, of]) => {
+            let picture = Area::read(room, of)?;
             let rectangle = Rectangle { xlo, xhi, ylo, yhi };
-            Call::ListWaterfall(rectangle, Area::read(room, of)?)
+            Call::ListWaterfall { rectangle, picture }
         }
         (b"rewrite_tree", &[room, of, work_room, work_of]) => {
-            Call::RewriteTree(Area::read(room, of)?, Area::read(work_room, work_of)?)
+            let tree = Area::read(room, of)?;
+            let work = Area::read(work_room, work_of)?;
+            Call::RewriteTree { tree, work }
         }
         (b"make_list", &[room, of]) => Call::MakeList(Area::read(room, of)?),
         (b"write_text", &[room, of]) => Call::WriteText(Area::read(room, of)?),
@@ -80,6 +100,7 @@ fn list_of<'a>(held: &Held<'_>, words: &'a mut [u64; 256]) -> Result<&'a [u64], 
     Ok(&words[..count])
 }
 
+// Asks the list that is set about a point.
 fn ask_list_point(rt: &impl Print, held: &Held<'_>, point: Point) -> Result<(), Fault> {
     let mut words: [u64; 256] = [0; 256];
     let list = list_of(held, &mut words)?;
@@ -87,38 +108,31 @@ fn ask_list_point(rt: &impl Print, held: &Held<'_>, point: Point) -> Result<(), 
     Ok(())
 }
 
-fn draw(
+// Asks for a picture of the list that is set.
+fn ask_waterfall(
     rt: &impl Print,
     held: &Held<'_>,
     rectangle: Rectangle,
-    area: Area<16400>,
+    picture: Area<16400>,
 ) -> Result<(), Fault> {
     let mut words: [u64; 256] = [0; 256];
     let list = list_of(held, &mut words)?;
-    pictures::draw(rt, held.table(), list, rectangle, area);
+    pictures::draw(rt, held.table(), list, rectangle, picture);
     Ok(())
 }
 
 // Searches a screenful into the first words of a buffer, and tells how that went and what the buffer holds.
-fn search_frames(
-    rt: &impl Print,
-    (table, list): (&[i32], &[u64]),
-    codes: &[i16],
-    frames: usize,
-    place: Place,
-    area: Area<16>,
-) {
-    let mut triples: [u32; 16] = [answers::FILL; 16];
-    let answer = zone::list_search_frames(
-        table,
-        list,
-        codes,
+fn search_frames(rt: &impl Print, table: &[i32], list: &[u64], codes: &[i16], screen: Screen) {
+    let Screen {
         frames,
         place,
-        &mut triples[..area.room],
-    );
+        triples,
+    } = screen;
+    let mut words: [u32; 16] = [answers::FILL; 16];
+    let lent = &mut words[..triples.room];
+    let answer = zone::list_search_frames(table, list, codes, frames, place, lent);
     let written = answers::written(rt, answer);
-    answers::buffer(rt, &triples[..area.of], written, &answers::FILL);
+    answers::buffer(rt, &words[..triples.of], written, &answers::FILL);
 }
 
 // Searches, where the list and the frame that are set are right.
@@ -130,19 +144,13 @@ fn ask_search(rt: &impl Print, held: &Held<'_>, search: Search) -> Result<(), Fa
     let count = numbers::read_frame(held.frame, &mut codes)?;
     let samples = &codes[..count];
     match search {
-        Search::Tree(place) => answers::searched(rt, zone::tree_search(table, samples, place)),
-        Search::List(place) => answers::searched(
-            rt,
-            zone::list_search(table, list, samples, place),
-        ),
-        Search::Frames(frames, place, area) => search_frames(
-            rt,
-            (table, list),
-            samples,
-            frames,
-            place,
-            area,
-        ),
+        Search::Tree(place) => {
+            answers::searched(rt, zone::tree_search(table, samples, place));
+        }
+        Search::List(place) => {
+            answers::searched(rt, zone::list_search(table, list, samples, place));
+        }
+        Search::Frames(screen) => search_frames(rt, table, list, samples, screen),
     }
     Ok(())
 }
@@ -155,8 +163,8 @@ pub fn ask(rt: &impl Print, held: &Held<'_>, line: Line<'_>) -> Result<(), Fault
         Call::TreePoint(point) => answers::located(rt, zone::tree_point(table, point)),
         Call::ListPoint(point) => ask_list_point(rt, held, point)?,
         Call::Search(search) => ask_search(rt, held, search)?,
-        Call::ListWaterfall(rectangle, area) => draw(rt, held, rectangle, area)?,
-        Call::RewriteTree(tree, work) => rewriting::rewrite(rt, table, tree, work),
+        Call::ListWaterfall { rectangle, picture } => ask_waterfall(rt, held, rectangle, picture)?,
+        Call::RewriteTree { tree, work } => rewriting::rewrite(rt, table, tree, work),
         Call::MakeList(area) => make_list(rt, table, numbers::read_window(held.window)?, area),
         Call::WriteText(area) => write_text(rt, table, area),
         Call::Compare(window) => comparing::compare(rt, table, window, held.axes)?,

@@ -41,7 +41,7 @@ struct Held<'a> {
     list: &'a [u8],
     frame: &'a [u8],
     window: &'a [u8],
-    axes: Axes<'a>,
+    axes: Axes<'a, u8>,
 }
 
 impl Held<'_> {

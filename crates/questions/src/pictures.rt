@@ -3,13 +3,9 @@ use crate::areas::{Area, FILL};
 use lines::{answers, say};
 use rules::{NO_FRAME, Rectangle};
 
-fn same(frame: &i32, next: &i32) -> bool {
-    frame == next
-}
-
 // The runs of a picture: how many equal words there are, and their frame.
 fn tell_runs(rt: &impl Print, picture: &[i32]) {
-    for run in picture.chunk_by(same) {
+    for run in picture.chunk_by(|frame, next| frame == next) {
         let length = run.len();
         match run {
             [NO_FRAME, ..] => say(rt, format_args!("\t{length} none")),
