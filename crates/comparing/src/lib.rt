@@ -62,7 +62,7 @@ impl fmt::Display for Counts {
 }
 
 // Something of each axis: the coordinates that are set, or the line that sets them, from its word on.
-#[derive(Clone, Copy)]
+#[derive(Clone, Copy, Default)]
 pub struct Axes<'a, T> {
     pub columns: &'a [T],
     pub codes: &'a [T],

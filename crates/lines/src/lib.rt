@@ -20,7 +20,7 @@ use std::str;
 pub struct Fault;
 
 // What a line is made of: its name with the tab, its word, and the numbers after the word, each with the space before it.
-#[derive(Clone, Copy)]
+#[derive(Clone, Copy, Default)]
 pub struct Line<'a> {
     pub name: &'a [u8],
     pub word: &'a [u8],
@@ -32,11 +32,7 @@ impl<'a> Line<'a> {
     pub fn read(line: &'a [u8]) -> Line<'a> {
         let line = without_end(line);
         if line.starts_with(b"#") {
-            return Line {
-                name: b"",
-                word: b"",
-                rest: b"",
-            };
+            return Line::default();
         }
         let (name, said) = match line.iter().position(|b| *b == b'\t') {
             Some(tab) => line.split_at(tab + 1),
@@ -78,6 +74,7 @@ pub fn read_file(rt: &HostRuntime, name: &[u8], text: &mut [u8]) -> usize
     ensures { IsPrefixLen result text.new }
 {
     match open(rt, name) {
+        // std's read_exact fails where a file is shorter, and its read_to_end takes the heap
         Some(file) => io::read_full(file.as_raw_fd(), text),
         None => 0,
     }

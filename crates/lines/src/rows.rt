@@ -3,16 +3,21 @@
 //     words W W ..    these words more, a row or not
 //     again R N       copies of the last R rows until there are N; what a row names is in its copy as many rows further on
 ghost use Rattle.std.specs.Prelude.{◌*◌, ◌≤◌, ◌<◌, length};
+ghost use Rattle.lines.specs.declared.rows.TheConstants.{MOST_WORDS};
 
 use crate::numbers::{read_all, read_just, size_of};
 use crate::{Fault, Line};
+use rules::{MOST_ROWS, ROW_WORDS};
+
+// The words of one row more than a table may have.
+const MOST_WORDS: usize = (MOST_ROWS + 1) * ROW_WORDS;
 
 // The rows that lines have given so far, at most one more than a table may have.
 #[derive(Clone, Copy)]
 pub struct Rows {
-    words: [i32; 1536],
+    words: [i32; MOST_WORDS],
     count: usize,
-    ghost in_room: { count ≤ 1536 },
+    ghost in_room: { count ≤ MOST_WORDS },
 }
 
 // A row that is named, so many rows further on.
@@ -28,30 +33,32 @@ fn further(v: i32, rows: usize) -> i32
 
 // A word of a table, as the copy has it that stands so many rows further on: words 1 and 2 of an operation name rows.
 fn copied(table: &[i32], at: usize, rows: usize) -> i32
-    requires { (at < length table.now) × (rows ≤ 128) }
+    requires in_bounds { at < length table.now }
+    requires few_rows { rows ≤ 128 }
 {
-    let place = at % 12;
-    if place == 0 || 2 < place || table[at - place] < 3 {
-        return table[at];
+    let place = at % ROW_WORDS;
+    if matches!(place, 1 | 2) && 3 <= table[at - place] {
+        further(table[at], rows)
+    } else {
+        table[at]
     }
-    further(table[at], rows)
 }
 
 // Copies the last rows into the words from one on up to another.
 fn copy_rows(table: &mut [i32], from: usize, to: usize, rows: usize)
-    requires rows_stand { 12 * rows ≤ from }
+    requires rows_stand { ROW_WORDS * rows ≤ from }
     requires few_rows { rows ≤ 128 }
     requires in_bounds { to ≤ length table.old }
 {
     for k in from..to {
-        table[k] = copied(table, k - 12 * rows, rows);
+        table[k] = copied(table, k - ROW_WORDS * rows, rows);
     }
 }
 
 impl Rows {
     pub fn new() -> Rows {
         Rows {
-            words: [0; 1536],
+            words: [0; MOST_WORDS],
             count: 0,
         }
     }
@@ -62,11 +69,12 @@ impl Rows {
 
     fn add_row(&mut self, rest: &[u8]) -> Result<(), Fault> {
         let start = self.count;
-        if 1524 < start {
+        let end = start + ROW_WORDS;
+        if MOST_WORDS < end {
             return Err(Fault);
         }
-        read_all(rest, &mut self.words[start..start + 12])?;
-        self.count = start + 12;
+        read_all(rest, &mut self.words[start..end])?;
+        self.count = end;
         Ok(())
     }
 
@@ -82,11 +90,12 @@ impl Rows {
         let rows = size_of(rows);
         let all = size_of(all);
         let count = self.count;
-        if rows == 0 || count / 12 < rows || 128 < all || 12 * all < count {
+        if rows == 0 || count / ROW_WORDS < rows || MOST_ROWS + 1 < all || all * ROW_WORDS < count {
             return Err(Fault);
         }
-        copy_rows(&mut self.words, count, 12 * all, rows);
-        self.count = 12 * all;
+        let end = all * ROW_WORDS;
+        copy_rows(&mut self.words, count, end, rows);
+        self.count = end;
         Ok(())
     }
 

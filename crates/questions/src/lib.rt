@@ -35,7 +35,7 @@ use lines::rows::Rows;
 use lines::{Fault, Line, say, say_bytes};
 
 // What the lines have set so far: a zone, and of each other line what follows its word.
-#[derive(Clone, Copy)]
+#[derive(Clone, Copy, Default)]
 struct Held<'a> {
     zone: Option<Rows>,
     list: &'a [u8],
@@ -45,21 +45,6 @@ struct Held<'a> {
 }
 
 impl Held<'_> {
-    // Nothing is set.
-    fn new() -> Self {
-        Held {
-            zone: None,
-            list: b"",
-            frame: b"",
-            window: b"",
-            axes: Axes {
-                columns: b"",
-                codes: b"",
-                frames: b"",
-            },
-        }
-    }
-
     // The table of the zone.
     fn table(&self) -> &[i32] {
         match &self.zone {
@@ -104,7 +89,7 @@ fn obey<'a>(rt: &impl Print, held: &mut Held<'a>, line: Line<'a>) -> Result<(), 
 
 // Obeys every line, up to the first that says nothing, or says it of something that is not right.
 fn obey_all(rt: &HostRuntime, text: &[u8]) {
-    let mut held = Held::new();
+    let mut held = Held::default();
     for (i, line) in text.split_inclusive(|b| *b == b'\n').enumerate() {
         if obey(rt, &mut held, Line::read(line)).is_err() {
             let number = i + 1;

@@ -175,6 +175,7 @@ pub fn tell_zone(rt: &impl Print, text: &[u8], w: Window) {
 pub fn tell_from(rt: &impl Print, fd: i32, w: Window) {
     // One byte more than a text may have, so that a longer one shows.
     let mut text: [u8; 16385] = [0; 16385];
+    // std's read_exact fails where a text is shorter, and its read_to_end takes the heap
     let read = io::read_full(fd, &mut text);
     tell_zone(rt, &text[..read], w);
 }
