@@ -12,6 +12,7 @@ use lines::{numbers, say_bytes, split_word, without_end};
 use rules::Window;
 use std::os::fd::AsRawFd;
 
+// Says the text of a file.
 fn show(rt: &HostRuntime, name: &[u8]) {
     let mut text: [u8; 4096] = [0; 4096];
     let size = lines::read_file(rt, name, &mut text);
@@ -19,10 +20,10 @@ fn show(rt: &HostRuntime, name: &[u8]) {
 }
 
 // A file that is not there is told as an empty one.
-fn explain(rt: &HostRuntime, name: &[u8], w: Window) {
+fn explain(rt: &HostRuntime, name: &[u8], window: Window) {
     match lines::open(rt, name) {
-        Some(file) => telling::tell_from(rt, file.as_raw_fd(), w),
-        None => telling::tell_zone(rt, b"", w),
+        Some(file) => telling::tell_from(rt, file.as_raw_fd(), window),
+        None => telling::tell_zone(rt, b"", window),
     }
 }
 

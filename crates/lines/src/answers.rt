@@ -6,6 +6,7 @@ use std::fmt::Display;
 // What a buffer is filled with before the call; no list and no triple here has such a word.
 pub const FILL: u32 = 777777;
 
+// Says why a call did nothing.
 pub fn refused(rt: &impl Print, refusal: Refusal) {
     say(
         rt,
@@ -13,6 +14,7 @@ pub fn refused(rt: &impl Print, refusal: Refusal) {
     );
 }
 
+// Says what the check of a table answers.
 pub fn checked(rt: &impl Print, answer: Checked) {
     match answer {
         Checked::Sound => say(rt, "sound"),
@@ -20,6 +22,7 @@ pub fn checked(rt: &impl Print, answer: Checked) {
     }
 }
 
+// Says what a question about one point answers.
 pub fn located(rt: &impl Print, answer: Located) {
     match answer {
         Located::Inside => say(rt, "inside"),
@@ -28,6 +31,7 @@ pub fn located(rt: &impl Print, answer: Located) {
     }
 }
 
+// Says what the search of a frame answers.
 pub fn searched(rt: &impl Print, answer: Searched) {
     match answer {
         Searched::Clear => say(rt, "clear"),

@@ -100,6 +100,7 @@ pub fn read_window(rest: &[u8]) -> Result<Window, Fault> {
     Ok(window_of(read_just(rest)?))
 }
 
+// The window of these bounds.
 pub fn window_of([xlo, xhi, ylo, yhi, zlo, zhi]: [i32; 6]) -> Window {
     Window {
         xlo,

@@ -56,6 +56,7 @@ fn copy_rows(table: &mut [i32], from: usize, to: usize, rows: usize)
 }
 
 impl Rows {
+    // No row.
     pub fn new() -> Rows {
         Rows {
             words: [0; MOST_WORDS],
@@ -63,6 +64,7 @@ impl Rows {
         }
     }
 
+    // The words so far.
     pub fn table(&self) -> &[i32] {
         &self.words[..self.count]
     }

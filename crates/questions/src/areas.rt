@@ -11,10 +11,12 @@ pub const FILL: i32 = 7777777;
 pub struct Area<const MOST: usize> {
     pub room: usize,
     pub of: usize,
-    ghost in_buffer: { (room ≤ of) × (of ≤ MOST) },
+    ghost room_in_area: { room ≤ of },
+    ghost area_in_buffer: { of ≤ MOST },
 }
 
 impl<const MOST: usize> Area<MOST> {
+    // The area that two numbers of a line give.
     pub fn read(room: i32, of: i32) -> Result<Area<MOST>, Fault> {
         let room = numbers::size_of(room);
         let of = numbers::size_of(of);

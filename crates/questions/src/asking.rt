@@ -4,6 +4,13 @@ use crate::{Held, pictures, rewriting};
 use lines::{Fault, Line, answers, numbers, say, say_bytes};
 use rules::{Place, Point, Rectangle, Window};
 
+// The most words of a list, bytes of a text and words of triples.
+const LIST_WORDS: usize = 256;
+
+const TEXT_BYTES: usize = 512;
+
+const TRIPLE_WORDS: usize = 16;
+
 // A call, with what it is asked.
 #[derive(Clone, Copy)]
 enum Call {
@@ -13,14 +20,14 @@ enum Call {
     Search(Search),
     ListWaterfall {
         rectangle: Rectangle,
-        picture: Area<16400>,
+        picture: Area<{ pictures::MOST }>,
     },
     RewriteTree {
-        tree: Area<24600>,
-        work: Area<24600>,
+        tree: Area<{ rewriting::MOST }>,
+        work: Area<{ rewriting::MOST }>,
     },
-    MakeList(Area<256>),
-    WriteText(Area<512>),
+    MakeList(Area<LIST_WORDS>),
+    WriteText(Area<TEXT_BYTES>),
     Compare(Window),
 }
 
@@ -37,7 +44,7 @@ enum Search {
 struct Screen {
     frames: usize,
     place: Place,
-    triples: Area<16>,
+    triples: Area<TRIPLE_WORDS>,
 }
 
 // The call of a line, if the line has the numbers of one.
@@ -77,17 +84,17 @@ fn call_of(line: Line<'_>) -> Result<Call, Fault> {
 }
 
 // Makes a list in the first words of a buffer, and tells how that went and what the buffer holds.
-fn make_list(rt: &impl Print, table: &[i32], window: Window, area: Area<256>) {
+fn make_list(rt: &impl Print, table: &[i32], window: Window, area: Area<LIST_WORDS>) {
     let fill = u64::from(answers::FILL);
-    let mut list: [u64; 256] = [fill; 256];
+    let mut list: [u64; LIST_WORDS] = [fill; LIST_WORDS];
     let answer = zone::make_list(table, window, &mut list[..area.room]);
     let written = answers::written(rt, answer);
     answers::buffer(rt, &list[..area.of], written, &fill);
 }
 
 // Writes the text of a table into the first bytes of a buffer, and tells how that went and what the buffer holds.
-fn write_text(rt: &impl Print, table: &[i32], area: Area<512>) {
-    let mut text: [u8; 512] = [b'.'; 512];
+fn write_text(rt: &impl Print, table: &[i32], area: Area<TEXT_BYTES>) {
+    let mut text: [u8; TEXT_BYTES] = [b'.'; TEXT_BYTES];
     let answer = zone::write_text(table, &mut text[..area.room]);
     answers::written(rt, answer);
     say(rt, "\n");
@@ -95,14 +102,14 @@ fn write_text(rt: &impl Print, table: &[i32], area: Area<512>) {
 }
 
 // The list that is set, read into a buffer.
-fn list_of<'a>(held: &Held<'_>, words: &'a mut [u64; 256]) -> Result<&'a [u64], Fault> {
+fn list_of<'a>(held: &Held<'_>, words: &'a mut [u64; LIST_WORDS]) -> Result<&'a [u64], Fault> {
     let count = numbers::read_all(held.list, words)?;
     Ok(&words[..count])
 }
 
 // Asks the list that is set about a point.
 fn ask_list_point(rt: &impl Print, held: &Held<'_>, point: Point) -> Result<(), Fault> {
-    let mut words: [u64; 256] = [0; 256];
+    let mut words: [u64; LIST_WORDS] = [0; LIST_WORDS];
     let list = list_of(held, &mut words)?;
     answers::located(rt, zone::list_point(held.table(), list, point));
     Ok(())
@@ -113,9 +120,9 @@ fn ask_waterfall(
     rt: &impl Print,
     held: &Held<'_>,
     rectangle: Rectangle,
-    picture: Area<16400>,
+    picture: Area<{ pictures::MOST }>,
 ) -> Result<(), Fault> {
-    let mut words: [u64; 256] = [0; 256];
+    let mut words: [u64; LIST_WORDS] = [0; LIST_WORDS];
     let list = list_of(held, &mut words)?;
     pictures::draw(rt, held.table(), list, rectangle, picture);
     Ok(())
@@ -128,7 +135,7 @@ fn search_frames(rt: &impl Print, table: &[i32], list: &[u64], codes: &[i16], sc
         place,
         triples,
     } = screen;
-    let mut words: [u32; 16] = [answers::FILL; 16];
+    let mut words: [u32; TRIPLE_WORDS] = [answers::FILL; TRIPLE_WORDS];
     let lent = &mut words[..triples.room];
     let answer = zone::list_search_frames(table, list, codes, frames, place, lent);
     let written = answers::written(rt, answer);
@@ -138,7 +145,7 @@ fn search_frames(rt: &impl Print, table: &[i32], list: &[u64], codes: &[i16], sc
 // Searches, where the list and the frame that are set are right.
 fn ask_search(rt: &impl Print, held: &Held<'_>, search: Search) -> Result<(), Fault> {
     let table = held.table();
-    let mut words: [u64; 256] = [0; 256];
+    let mut words: [u64; LIST_WORDS] = [0; LIST_WORDS];
     let list = list_of(held, &mut words)?;
     let mut codes: [i16; 65537] = [0; 65537];
     let count = numbers::read_frame(held.frame, &mut codes)?;

@@ -3,6 +3,9 @@ use crate::areas::{Area, FILL};
 use lines::{answers, say};
 use rules::{NO_FRAME, Rectangle};
 
+// More than the largest picture.
+pub const MOST: usize = 16400;
+
 // The runs of a picture: how many equal words there are, and their frame.
 fn tell_runs(rt: &impl Print, picture: &[i32]) {
     for run in picture.chunk_by(|frame, next| frame == next) {
@@ -16,8 +19,8 @@ fn tell_runs(rt: &impl Print, picture: &[i32]) {
 }
 
 // Draws in the first words of a buffer, and tells how that went and what the buffer holds.
-pub fn draw(rt: &impl Print, table: &[i32], list: &[u64], rectangle: Rectangle, area: Area<16400>) {
-    let mut words: [i32; 16400] = [FILL; 16400];
+pub fn draw(rt: &impl Print, table: &[i32], list: &[u64], rectangle: Rectangle, area: Area<MOST>) {
+    let mut words: [i32; MOST] = [FILL; MOST];
     let answer = zone::list_waterfall(table, list, rectangle, &mut words[..area.room]);
     let written = answers::written(rt, answer);
     let picture = &words[..area.of];

@@ -2,6 +2,9 @@
 use crate::areas::{Area, FILL};
 use lines::{answers, say};
 
+// More than either area needs.
+pub const MOST: usize = 24600;
+
 // A tree of at most so many words is told row by row.
 const WHOLE: usize = 60;
 
@@ -20,9 +23,9 @@ fn tell_tree(rt: &impl Print, area: &[i32], written: usize) {
 
 // Rewrites into the first words of one area by the first words of another, and tells how that went and what both hold: of the second, how many words
 // are 0, and how many are as they were.
-pub fn rewrite(rt: &impl Print, table: &[i32], tree: Area<24600>, work: Area<24600>) {
-    let mut tree_words: [i32; 24600] = [FILL; 24600];
-    let mut work_words: [i32; 24600] = [FILL; 24600];
+pub fn rewrite(rt: &impl Print, table: &[i32], tree: Area<MOST>, work: Area<MOST>) {
+    let mut tree_words: [i32; MOST] = [FILL; MOST];
+    let mut work_words: [i32; MOST] = [FILL; MOST];
     let answer = zone::rewrite_tree(
         table,
         &mut tree_words[..tree.room],

@@ -108,9 +108,9 @@ impl fmt::Display for Outcome {
 }
 
 // Tells each way of a table, by the list for the window.
-fn tell_ways(rt: &impl Print, table: &[i32], list: &[u64], w: Window)
+fn tell_ways(rt: &impl Print, table: &[i32], list: &[u64], window: Window)
     requires sound { Sound table.now }
-    requires each_once { EachOnce table.now w list.now }
+    requires each_once { EachOnce table.now window list.now }
     requires list_bound { product_count list.now ≤ 65536 }
 {
     let mut bits: [u64; 127] = [0; 127];
@@ -120,7 +120,16 @@ fn tell_ways(rt: &impl Print, table: &[i32], list: &[u64], w: Window)
     let mut firsts: [u64; 65536] = [0; 65536];
     let mut products: usize = 0;
     for k in 0..ways {
-        let way = told::tell_way(&mut firsts, &mut counts, table, &bits, list, w, k, products);
+        let way = told::tell_way(
+            &mut firsts,
+            &mut counts,
+            table,
+            &bits,
+            list,
+            window,
+            k,
+            products,
+        );
         say(
             rt,
             format_args!("way {k}: {}: {}\n", Choice(way.chosen), Outcome(way)),
@@ -141,41 +150,42 @@ fn say_list(rt: &impl Print, list: &[u64])
     }
 }
 
+// Says why there is none, at a line's end.
 fn say_refused(rt: &impl Print, refusal: Refusal) {
     answers::refused(rt, refusal);
     say(rt, "\n");
 }
 
 // Tells the ways of a table and its list, which there is always room for, or why there is none.
-fn tell_table(rt: &impl Print, table: &[i32], w: Window)
+fn tell_table(rt: &impl Print, table: &[i32], window: Window)
     requires { Sound table.now }
 {
     let mut list: [u64; 131080] = [0; 131080];
-    let made = zone::make_list(table, w, &mut list);
+    let made = zone::make_list(table, window, &mut list);
     match made {
         Written::Refused(refusal) => say_refused(rt, refusal),
         Written::Wrote(_) => {
-            tell_ways(rt, table, &list, w);
+            tell_ways(rt, table, &list, window);
             say_list(rt, &list);
         }
     }
 }
 
 // Tells the ways of the zone of a text and its list, or why there is none. The 127 rows of the table always suffice.
-pub fn tell_zone(rt: &impl Print, text: &[u8], w: Window) {
+pub fn tell_zone(rt: &impl Print, text: &[u8], window: Window) {
     let mut table: [i32; 1524] = [0; 1524];
     let read = zone::read_text(text, &mut table);
     match read {
         Written::Refused(refusal) => say_refused(rt, refusal),
-        Written::Wrote(words) => tell_table(rt, &table[..words], w),
+        Written::Wrote(words) => tell_table(rt, &table[..words], window),
     }
 }
 
 // Reads the text on a descriptor whole, and tells its zone.
-pub fn tell_from(rt: &impl Print, fd: i32, w: Window) {
+pub fn tell_from(rt: &impl Print, fd: i32, window: Window) {
     // One byte more than a text may have, so that a longer one shows.
     let mut text: [u8; 16385] = [0; 16385];
     // std's read_exact fails where a text is shorter, and its read_to_end takes the heap
     let read = io::read_full(fd, &mut text);
-    tell_zone(rt, &text[..read], w);
+    tell_zone(rt, &text[..read], window);
 }
