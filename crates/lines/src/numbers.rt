@@ -1,5 +1,5 @@
 // The numbers of a line, each with the space before it.
-ghost use Rattle.std.specs.Prelude.{◌≤◌, length, IfOk, IfSome};
+ghost use Rattle.std.specs.Prelude.{◌≡◌, ◌≤◌, length, IfOk, IfSome};
 
 use crate::Fault;
 use rules::Window;
@@ -38,26 +38,31 @@ pub fn size_of(v: i32) -> usize {
     usize::try_from(v).unwrap_or(0)
 }
 
-// Writes the values of a line, each with a space before it, and answers how many there are. They are not right if there is no place for one.
-pub fn read_all<T: FromStart>(rest: &[u8], into: &mut [T]) -> Result<usize, Fault>
-    ensures { IfOk result (λ count. count ≤ length into.new) }
+// So many values, if nothing of their line is left.
+fn ended(left: &[u8], count: usize) -> Result<usize, Fault>
+    ensures { IfOk result (λ ended. ended ≡ count) }
 {
-    let mut count: usize = 0;
-    let mut left = rest;
-    while let [b' ', text @ ..] = left {
-        if into.len() <= count {
-            return Err(Fault);
-        }
-        let (value, after) = T::from_start(text).ok_or(Fault)?;
-        into[count] = value;
-        count += 1;
-        left = after;
-    }
     if left.is_empty() {
         Ok(count)
     } else {
         Err(Fault)
     }
+}
+
+// Writes the values of a line, each with a space before it, and answers how many there are. They are not right if there is no place for one.
+pub fn read_all<T: FromStart>(rest: &[u8], into: &mut [T]) -> Result<usize, Fault>
+    ensures { IfOk result (λ count. count ≤ length into.new) }
+{
+    let mut left = rest;
+    for (count, place) in into.iter_mut().enumerate() {
+        let [b' ', text @ ..] = left else {
+            return ended(left, count);
+        };
+        let (value, after) = T::from_start(text).ok_or(Fault)?;
+        *place = value;
+        left = after;
+    }
+    ended(left, into.len())
 }
 
 // The numbers of a line, if they are just so many.
