@@ -1,181 +1,183 @@
 // A list held against its tree, at every point of the columns, codes and frames that are set.
-//
-// At a point one of six findings is made: list and tree say outside; both say inside; the list refuses a point whose column is out of its window; or
-// whose code is, or its frame; or else, and then they disagree.
 
 #![tactic(auto)]
 
 ghost use Rattle.std.specs.Prelude.{◌≤◌, length};
 
-use lines::{answers, numbers};
+use lines::{Fault, answers, numbers, say};
 use rules::{Located, Point, Refusal, Window, Written};
+use std::fmt;
 
-// Where in a text the coordinates of each axis stand.
+// What is found at a point: list and tree say the same, or the list refuses a point that is out of its window, or else they disagree.
+#[derive(Clone, Copy, Debug, PartialEq, Eq)]
+enum Finding {
+    Outside,
+    Inside,
+    OutByColumn,
+    OutByCode,
+    OutByFrame,
+    Disagree,
+}
+
+// How often each finding was made; a count that is the greatest stays.
+#[derive(Clone, Copy, Default)]
+struct Counts {
+    outside: u64,
+    inside: u64,
+    out_by_column: u64,
+    out_by_code: u64,
+    out_by_frame: u64,
+    disagree: u64,
+}
+
+impl Counts {
+    fn add(&mut self, finding: Finding) {
+        let count = match finding {
+            Finding::Outside => &mut self.outside,
+            Finding::Inside => &mut self.inside,
+            Finding::OutByColumn => &mut self.out_by_column,
+            Finding::OutByCode => &mut self.out_by_code,
+            Finding::OutByFrame => &mut self.out_by_frame,
+            Finding::Disagree => &mut self.disagree,
+        };
+        *count = count.saturating_add(1);
+    }
+}
+
+impl fmt::Display for Counts {
+    fn fmt<W: fmt::Write>(&self, f: &mut fmt::Formatter<W>) -> fmt::Result {
+        let Counts {
+            outside,
+            inside,
+            out_by_column,
+            out_by_code,
+            out_by_frame,
+            disagree,
+        } = *self;
+        write!(
+            f,
+            "\t{outside}\t{inside}\t{out_by_column}\t{out_by_code}\t{out_by_frame}\t{disagree}"
+        )
+    }
+}
+
+// Something of each axis: the coordinates that are set, or the line that sets them, from its word on.
+#[derive(Clone, Copy, Default)]
+pub struct Axes<'a, T> {
+    pub columns: &'a [T],
+    pub codes: &'a [T],
+    pub frames: &'a [T],
+}
+
+// A list and the table of the zone that it is of.
 #[derive(Clone, Copy)]
-pub struct Axes {
-    pub columns: usize,
-    pub codes: usize,
-    pub frames: usize,
+struct Pair<'a> {
+    table: &'a [i32],
+    list: &'a [u64],
 }
 
-const OUTSIDE: usize = 0;
-
-const INSIDE: usize = 1;
-
-const OUT_OF_WINDOW: usize = 2;
-
-const DISAGREE: usize = 5;
-
-// At a place that has no point; these are counted too, and not told.
-const NO_POINT: usize = 6;
-
-// 64 columns, 64 codes and 64 frames.
-const PLACES: usize = 262144;
-
-fn refusal_told(refusal: Refusal) -> usize
-    ensures { result ≤ 5 }
-{
-    let axis = refusal.value;
-    if 2 < axis {
-        return DISAGREE;
+// What a refusal says: the axis on which a point is out of the window, where it is refused for that.
+fn refusal_told(refusal: Refusal) -> Finding {
+    match (refusal.number, refusal.value) {
+        (10, 0) => Finding::OutByColumn,
+        (10, 1) => Finding::OutByCode,
+        (10, 2) => Finding::OutByFrame,
+        _ => Finding::Disagree,
     }
-    if refusal.number != 10 {
-        return DISAGREE;
-    }
-    OUT_OF_WINDOW + axis as usize
 }
 
-fn told(answer: Located) -> usize
-    ensures { result ≤ 5 }
-{
+// What an answer about a point says.
+fn told(answer: Located) -> Finding {
     match answer {
-        Located::Outside => OUTSIDE,
-        Located::Inside => INSIDE,
+        Located::Outside => Finding::Outside,
+        Located::Inside => Finding::Inside,
         Located::Refused(refusal) => refusal_told(refusal),
     }
 }
 
-// What is found at a point.
-fn find(table: &[i32], list: &[u64], p: Point) -> usize
-    ensures { result ≤ 5 }
-{
-    let by_list = told(zone::list_point(table, list, p));
-    let by_tree = told(zone::tree_point(table, p));
-    let agree = (by_list == by_tree) | (OUT_OF_WINDOW <= by_list);
-    if (by_tree < OUT_OF_WINDOW) & agree {
-        return by_list;
-    }
-    DISAGREE
-}
-
-// A finding more; a count that is the greatest stays.
-fn count(counts: &mut [u64; 7], finding: usize)
-    requires { finding ≤ 6 }
-{
-    let before = counts[finding];
-    if before < 18446744073709551615 {
-        counts[finding] = before + 1;
+// What is found at a point. The tree has to answer; the list may refuse a point that is out of its window.
+fn find(pair: Pair<'_>, point: Point) -> Finding {
+    let by_list = told(zone::list_point(pair.table, pair.list, point));
+    let by_tree = told(zone::tree_point(pair.table, point));
+    match (by_tree, by_list) {
+        (Finding::Outside, Finding::Inside) | (Finding::Inside, Finding::Outside) =>
+            Finding::Disagree,
+        (Finding::Outside | Finding::Inside, found) => found,
+        _ => Finding::Disagree,
     }
 }
 
-// What is found at place k: the columns follow one another first, the frames last.
-fn ask_at(
-    table: &[i32],
-    list: &[u64],
-    columns: &[i32],
-    codes: &[i32],
-    frames: &[i32],
-    k: usize,
-) -> usize
-    ensures { result ≤ 6 }
-{
-    let column = k % 64;
-    let code = k / 64 % 64;
-    let frame = k / 4096;
-    if columns.len() <= column {
-        return NO_POINT;
+// Asks at each column, at one code of one frame.
+fn ask_columns(pair: Pair<'_>, columns: &[i32], code: i32, frame: i32, counts: &mut Counts) {
+    for column in columns {
+        let point = Point {
+            x: *column,
+            y: code,
+            z: frame,
+        };
+        counts.add(find(pair, point));
     }
-    if codes.len() <= code {
-        return NO_POINT;
-    }
-    if frames.len() <= frame {
-        return NO_POINT;
-    }
-    let p = Point {
-        x: columns[column],
-        y: codes[code],
-        z: frames[frame],
-    };
-    find(table, list, p)
 }
 
-fn ask_all(
-    table: &[i32],
-    list: &[u64],
-    columns: &[i32],
-    codes: &[i32],
-    frames: &[i32],
-) -> [u64; 7] {
-    let mut counts: [u64; 7] = [0; 7];
-    let mut k: usize = 0;
-    while k < PLACES {
-        count(&mut counts, ask_at(table, list, columns, codes, frames, k));
-        k += 1;
+// Asks at each column and code of one frame.
+fn ask_codes(pair: Pair<'_>, axes: Axes<'_, i32>, frame: i32, counts: &mut Counts) {
+    for code in axes.codes {
+        ask_columns(pair, axes.columns, *code, frame, counts);
+    }
+}
+
+// Asks at each point.
+fn ask_all(pair: Pair<'_>, axes: Axes<'_, i32>) -> Counts {
+    let mut counts = Counts::default();
+    for frame in axes.frames {
+        ask_codes(pair, axes, *frame, &mut counts);
     }
     counts
 }
 
-fn tell_counts(counts: [u64; 7]) {
-    answers::number(counts[0]);
-    answers::number(counts[1]);
-    answers::number(counts[2]);
-    answers::number(counts[3]);
-    answers::number(counts[4]);
-    answers::number(counts[5]);
-}
-
 // Makes the list of a window and compares it, or tells why there is none.
-fn compare_list(table: &[i32], w: Window, columns: &[i32], codes: &[i32], frames: &[i32]) {
+fn compare_list(rt: &impl Print, table: &[i32], window: Window, axes: Axes<'_, i32>) {
     // room for 12 products: a zone that has more is told as refused
     let mut list: [u64; 32] = [0; 32];
-    let made = zone::make_list(table, w, &mut list);
-    match made {
+    match zone::make_list(table, window, &mut list) {
         Written::Wrote(_) => {
-            io::print_decimal(1, list[0]);
-            tell_counts(ask_all(table, &list, columns, codes, frames));
+            let products = list[0];
+            let counts = ask_all(Pair { table, list: &list }, axes);
+            say(rt, format_args!("{products}{counts}"));
         }
-        Written::Refused(r) => answers::refused(r),
+        Written::Refused(refusal) => answers::refused(rt, refusal),
     }
 }
 
 // Reads the coordinates of a line, and answers how many there are: none if the line is not right.
-fn read_axis(text: &[u8], at: usize, into: &mut [i32]) -> usize
+fn read_axis(rest: &[u8], into: &mut [i32]) -> usize
     ensures { result ≤ length into.new }
 {
-    let read = numbers::read_numbers(text, at, into, 0);
-    if read.right {
-        return read.count;
-    }
-    0
+    numbers::read_all(rest, into).unwrap_or(0)
 }
 
-// Compares at the coordinates that are set; false if an axis has none.
-fn compare_at(text: &[u8], axes: Axes, table: &[i32], w: Window) -> bool {
-    let mut xs: [i32; 64] = [0; 64];
-    let mut ys: [i32; 64] = [0; 64];
-    let mut zs: [i32; 64] = [0; 64];
-    let columns = read_axis(text, axes.columns, &mut xs);
-    let codes = read_axis(text, axes.codes, &mut ys);
-    let frames = read_axis(text, axes.frames, &mut zs);
-    compare_list(table, w, &xs[0..columns], &ys[0..codes], &zs[0..frames]);
-    (0 < columns) & (0 < codes) & (0 < frames)
-}
-
-// Compares in the window that a line's numbers give; false if they are not six, or an axis has no coordinate.
-pub fn compare(text: &[u8], at: usize, axes: Axes, table: &[i32]) -> bool {
-    let bounds = numbers::read_window(text, at);
-    if !bounds.right {
-        return false;
+// Compares a window's list at the coordinates that are set. It is not right if an axis has none, and is told all the same.
+pub fn compare(
+    rt: &impl Print,
+    table: &[i32],
+    window: Window,
+    lines: Axes<'_, u8>,
+) -> Result<(), Fault> {
+    let mut columns: [i32; 64] = [0; 64];
+    let mut codes: [i32; 64] = [0; 64];
+    let mut frames: [i32; 64] = [0; 64];
+    let column_count = read_axis(lines.columns, &mut columns);
+    let code_count = read_axis(lines.codes, &mut codes);
+    let frame_count = read_axis(lines.frames, &mut frames);
+    let axes = Axes {
+        columns: &columns[..column_count],
+        codes: &codes[..code_count],
+        frames: &frames[..frame_count],
+    };
+    compare_list(rt, table, window, axes);
+    if column_count == 0 || code_count == 0 || frame_count == 0 {
+        Err(Fault)
+    } else {
+        Ok(())
     }
-    compare_at(text, axes, table, bounds.window)
 }

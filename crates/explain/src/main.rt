@@ -8,71 +8,53 @@
 
 #![tactic(auto)]
 
-use lines::numbers;
+use lines::{numbers, say_bytes, split_word, without_end};
 use rules::Window;
 use std::os::fd::AsRawFd;
 
-// The words of the lines, by their places.
-const WINDOW: usize = 0;
-
-const SHOW: usize = 1;
-
-const EXPLAIN: usize = 2;
-
+// Says the text of a file.
 fn show(rt: &HostRuntime, name: &[u8]) {
-    let mut text = io::buffer();
+    let mut text: [u8; 4096] = [0; 4096];
     let size = lines::read_file(rt, name, &mut text);
-    telling::say(&text[..size]);
+    say_bytes(rt, &text[..size]);
 }
 
 // A file that is not there is told as an empty one.
-fn explain(rt: &HostRuntime, name: &[u8], w: Window) {
+fn explain(rt: &HostRuntime, name: &[u8], window: Window) {
     match lines::open(rt, name) {
-        Some(file) => telling::tell_from(file.as_raw_fd(), w),
-        None => telling::tell_zone(b"", w),
+        Some(file) => telling::tell_from(rt, file.as_raw_fd(), window),
+        None => telling::tell_zone(rt, b"", window),
     }
 }
 
 // The file that a line names after its word, none if it has but a word.
-fn file_of(line: &[u8]) -> &[u8] {
-    let space = lines::until(line, 0, b' ');
-    let end = lines::until(line, 0, b'\n');
-    if end <= space {
-        return &line[0..0];
-    }
-    &line[space + 1..end]
+fn file_of(rest: &[u8]) -> &[u8] {
+    rest.strip_prefix(b" ").unwrap_or(b"")
 }
 
-// Does what a line says, and answers the window from there on.
-fn obey(rt: &HostRuntime, line: &[u8], w: Window) -> Window {
-    let word = lines::read_word(line, 0, b"window\nshow\nexplain\n");
-    if word.place == WINDOW {
-        return numbers::read_window(line, word.next).window;
-    }
-    if word.place == SHOW {
-        show(rt, file_of(line));
-        return w;
-    }
-    if word.place == EXPLAIN {
-        explain(rt, file_of(line), w);
-        return w;
-    }
-    telling::say(line);
-    w
+// The window that a line gives; a bound that it lacks is 0.
+fn window_of(rest: &[u8]) -> Window {
+    let mut bounds: [i32; 6] = [0; 6];
+    let _ = numbers::read_all(rest, &mut bounds);
+    numbers::window_of(bounds)
 }
 
-fn obey_all(rt: &HostRuntime, text: &[u8]) {
-    let mut w = window::everywhere();
-    let mut at: usize = 0;
-    while at < text.len() {
-        let next = lines::next_line(text, at);
-        w = obey(rt, &text[at..next], w);
-        at = next;
+// Does what a line says, in the window that stands now.
+fn obey(rt: &HostRuntime, line: &[u8], window: &mut Window) {
+    let (word, rest) = split_word(without_end(line));
+    match word {
+        b"window" => *window = window_of(rest),
+        b"show" => show(rt, file_of(rest)),
+        b"explain" => explain(rt, file_of(rest), *window),
+        _ => say_bytes(rt, line),
     }
 }
 
 fn main(rt: HostRuntime) {
-    let mut text = io::buffer();
+    let mut text: [u8; 4096] = [0; 4096];
     let size = lines::read_file(&rt, b"lessons", &mut text);
-    obey_all(&rt, &text[..size]);
+    let mut window = window::everywhere();
+    for line in text[..size].split_inclusive(|b| *b == b'\n') {
+        obey(&rt, line, &mut window);
+    }
 }

@@ -3,6 +3,7 @@
 
 #![tactic(auto)]
 
+use lines::numbers::FromStart;
 use rules::Window;
 use std::env::{Env, FillError};
 
@@ -11,14 +12,10 @@ fn bound(rt: &HostRuntime, i: usize) -> i32 {
     let mut word: [u8; 16] = [0; 16];
     // one that is missing, or longer than any such number, is read as an empty one
     let size = rt.arg(i, &mut word).unwrap_or(0);
-    let number = number::read_number(&word[..size], 0);
-    if !number.right {
-        return 2147483647;
+    match i32::from_start(&word[..size]) {
+        Some((value, [])) => value,
+        _ => i32::MAX,
     }
-    if number.next != size {
-        return 2147483647;
-    }
-    number.value
 }
 
 fn has_arguments(rt: &HostRuntime) -> bool {
@@ -41,5 +38,5 @@ fn window_asked(rt: &HostRuntime) -> Window {
 }
 
 fn main(rt: HostRuntime) {
-    telling::tell_from(0, window_asked(&rt));
+    telling::tell_from(&rt, 0, window_asked(&rt));
 }

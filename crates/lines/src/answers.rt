@@ -1,87 +1,69 @@
 // What an answer tells, after the name of what was asked.
-ghost use Rattle.std.specs.Prelude.{◌≤◌};
-
-use rules::{Checked, Located, Refusal, Searched};
+use crate::say;
+use rules::{Checked, Located, Refusal, Searched, Written};
+use std::fmt::Display;
 
 // What a buffer is filled with before the call; no list and no triple here has such a word.
-pub const FILL: u64 = 777777;
+pub const FILL: u32 = 777777;
 
-pub fn number(n: u64) {
-    io::write_all(1, b"\t");
-    io::print_decimal(1, n);
+// Says why a call did nothing.
+pub fn refused(rt: &impl Print, refusal: Refusal) {
+    say(
+        rt,
+        format_args!("refused\t{}\t{}", refusal.number, refusal.value),
+    );
 }
 
-pub fn refused(r: Refusal) {
-    io::write_all(1, b"refused");
-    number(r.number);
-    number(r.value);
-}
-
-pub fn checked(answer: Checked) {
+// Says what the check of a table answers.
+pub fn checked(rt: &impl Print, answer: Checked) {
     match answer {
-        Checked::Sound => {
-            io::write_all(1, b"sound");
-        }
-        Checked::Refused(r) => refused(r),
+        Checked::Sound => say(rt, "sound"),
+        Checked::Refused(refusal) => refused(rt, refusal),
     }
 }
 
-pub fn located(answer: Located) {
+// Says what a question about one point answers.
+pub fn located(rt: &impl Print, answer: Located) {
     match answer {
-        Located::Inside => {
-            io::write_all(1, b"inside");
-        }
-        Located::Outside => {
-            io::write_all(1, b"outside");
-        }
-        Located::Refused(r) => refused(r),
+        Located::Inside => say(rt, "inside"),
+        Located::Outside => say(rt, "outside"),
+        Located::Refused(refusal) => refused(rt, refusal),
     }
 }
 
-fn hit(first: u64, count: u64) {
-    io::write_all(1, b"hit");
-    number(first);
-    number(count);
-}
-
-pub fn searched(answer: Searched) {
+// Says what the search of a frame answers.
+pub fn searched(rt: &impl Print, answer: Searched) {
     match answer {
-        Searched::Clear => {
-            io::write_all(1, b"clear");
-        }
-        Searched::Hit { first, count } => hit(first as u64, count as u64),
-        Searched::Refused(r) => refused(r),
+        Searched::Clear => say(rt, "clear"),
+        Searched::Hit { first, count } => say(rt, format_args!("hit\t{first}\t{count}")),
+        Searched::Refused(refusal) => refused(rt, refusal),
     }
 }
 
-// A word of the list is printed; of a word after it, whether it is as it was.
-fn word(w: u64, listed: bool) -> u64
-    ensures { result ≤ 1 }
-{
-    if listed {
-        number(w);
-        return 0;
+// Says how a call that writes went, and answers how many words it wrote, none if it was refused.
+pub fn written(rt: &impl Print, answer: Written) -> usize {
+    match answer {
+        Written::Wrote(n) => {
+            say(rt, format_args!("wrote\t{n}"));
+            n
+        }
+        Written::Refused(refusal) => {
+            refused(rt, refusal);
+            0
+        }
     }
-    if w == FILL {
-        return 1;
-    }
-    0
+}
+
+// Says how many words from n on are as they were.
+pub fn kept<T: PartialEq>(rt: &impl Print, words: &[T], n: usize, fill: &T) {
+    let kept = words.iter().skip(n).filter(|word| *word == fill).count();
+    say(rt, format_args!("\tkept\t{kept}"));
 }
 
 // Prints the first words of a buffer, and how many of the others are as they were.
-pub fn buffer(list: &[u64], n: usize) {
-    let mut kept: u64 = 0;
-    let mut i: usize = 0;
-    while i < list.len() {
-        kept += word(list[i], i < n);
-        i += 1;
+pub fn buffer<T: Display + PartialEq>(rt: &impl Print, words: &[T], n: usize, fill: &T) {
+    for word in words.iter().take(n) {
+        say(rt, format_args!("\t{word}"));
     }
-    io::write_all(1, b"\tkept");
-    number(kept);
-}
-
-pub fn wrote(list: &[u64], n: usize) {
-    io::write_all(1, b"wrote");
-    number(n as u64);
-    buffer(list, n);
+    kept(rt, words, n, fill);
 }

@@ -1,157 +1,118 @@
-// The numbers of a line, from a position on.
-ghost use Rattle.std.specs.Prelude.{◌≤◌, ◌<◌, ◌≡◌, length};
+// The numbers of a line, each with the space before it.
+ghost use Rattle.std.specs.Prelude.{◌≡◌, ◌≤◌, length, IfOk, IfSome};
 
-use crate::Filled;
-use number::Number;
+use crate::Fault;
 use rules::Window;
+use std::str;
 
-// A window, and whether it was read right.
-#[derive(Clone, Copy)]
-pub struct Bounds {
-    pub right: bool,
-    pub window: Window,
+// What can stand after a space of a line.
+pub trait FromStart: Copy {
+    // The value that a text begins with, and what follows it.
+    fn from_start(text: &[u8]) -> Option<(Self, &[u8])>
+        ensures { IfSome result (λ found. length found.1.now ≤ length text.now) };
 }
 
-// What was read is not right; so many places are filled all the same.
-pub fn wrong(count: usize) -> Filled
-    ensures { result.count ≡ count }
-{
-    Filled {
-        right: false,
-        count,
+// A number of the rules.
+impl FromStart for i32 {
+    fn from_start(text: &[u8]) -> Option<(i32, &[u8])> {
+        let number = number::read_number(text, 0);
+        if !number.right {
+            return None;
+        }
+        Some((number.value, text.get(number.next..)?))
     }
 }
 
-// What was read up to a position; right if the line ends there, or the text.
-pub fn ended(text: &[u8], at: usize, count: usize) -> Filled
-    ensures { result.count ≡ count }
-{
-    if text.len() <= at {
-        return Filled { right: true, count };
+// A word of a list: digits, as far as they go.
+impl FromStart for u64 {
+    fn from_start(text: &[u8]) -> Option<(u64, &[u8])> {
+        let end = text.iter().position(|b| !b.is_ascii_digit());
+        let (digits, rest) = text.split_at(end.unwrap_or(text.len()));
+        let value = str::from_utf8(digits).ok()?.parse::<u64>().ok()?;
+        Some((value, rest))
     }
-    let right = text[at] == b'\n';
-    Filled { right, count }
 }
 
 // A number as a size, 0 for a negative one.
 pub fn size_of(v: i32) -> usize {
-    if v < 0 {
-        return 0;
-    }
-    v as usize
+    usize::try_from(v).unwrap_or(0)
 }
 
-// The number after the space at a position; it is not right where there is none.
-fn number_after(text: &[u8], at: usize) -> Number {
-    let none = Number {
-        right: false,
-        value: 0,
-        next: at,
-    };
-    if text.len() <= at {
-        return none;
-    }
-    if text[at] != b' ' {
-        return none;
-    }
-    number::read_number(text, at + 1)
-}
-
-// Writes the numbers of a line after those that are there. At the text's end there are none.
-pub fn read_numbers(text: &[u8], at: usize, into: &mut [i32], before: usize) -> Filled
-    requires { before ≤ length into.old }
-    ensures { result.count ≤ length into.new }
+// So many values, if nothing of their line is left.
+fn ended(left: &[u8], count: usize) -> Result<usize, Fault>
+    ensures { IfOk result (λ ended. ended ≡ count) }
 {
-    let mut count = before;
-    let mut next = at;
-    while count < into.len() {
-        let number = number_after(text, next);
-        if !number.right {
-            return ended(text, next, count);
-        }
-        let value = number.value;
-        into[count] = value;
-        count += 1;
-        next = number.next;
+    if left.is_empty() {
+        Ok(count)
+    } else {
+        Err(Fault)
     }
-    ended(text, next, count)
 }
 
-// Reads the numbers of a line, and answers whether they are just as many as there are places.
-pub fn read_just(text: &[u8], at: usize, into: &mut [i32]) -> bool {
-    let read = read_numbers(text, at, into, 0);
-    read.right & (read.count == into.len())
-}
-
-fn is_code(v: i32) -> bool {
-    (-32768 <= v) & (v <= 32767)
-}
-
-// A number as a code, brought between the least and the greatest.
-fn code(v: i32) -> i16 {
-    if v <= -32768 {
-        return -32768;
-    }
-    if 32767 <= v {
-        return 32767;
-    }
-    v as i16
-}
-
-// The number at a place, where some numbers follow one another over and over.
-fn over_and_over(numbers: &[i32], place: usize) -> i32
-    requires { 0 < length numbers.now }
+// Writes the values of a line, each with a space before it, and answers how many there are. They are not right if there is no place for one.
+pub fn read_all<T: FromStart>(rest: &[u8], into: &mut [T]) -> Result<usize, Fault>
+    ensures { IfOk result (λ count. count ≤ length into.new) }
 {
-    numbers[place % numbers.len()]
+    let mut left = rest;
+    for (count, place) in into.iter_mut().enumerate() {
+        let [b' ', text @ ..] = left else {
+            return ended(left, count);
+        };
+        let (value, after) = T::from_start(text).ok_or(Fault)?;
+        *place = value;
+        left = after;
+    }
+    ended(left, into.len())
 }
 
-// Writes these codes, over and over, into all places, and answers whether each of them is one.
-fn repeat(codes: &[i32], into: &mut [i16]) -> bool
-    requires { 0 < length codes.now }
-{
-    let mut right = true;
-    let mut k: usize = 0;
-    while k < into.len() {
-        let v = over_and_over(codes, k);
-        into[k] = code(v);
-        right = right & is_code(v);
-        k += 1;
+// The numbers of a line, if they are just so many.
+pub fn read_just<const N: usize>(rest: &[u8]) -> Result<[i32; N], Fault> {
+    let mut numbers: [i32; N] = [0; N];
+    if read_all(rest, &mut numbers)? == N {
+        Ok(numbers)
+    } else {
+        Err(Fault)
     }
-    right
+}
+
+// Writes these codes, over and over, into all places, if each of them is one.
+fn repeat(codes: &[i32], into: &mut [i16]) -> Result<(), Fault> {
+    for (place, code) in into.iter_mut().zip(codes.iter().cycle()) {
+        *place = i16::try_from(*code).map_err(|_| Fault)?;
+    }
+    Ok(())
 }
 
 // Writes the samples of a frame: their number is a line's first, and their codes are the others, over and over.
-pub fn read_frame(text: &[u8], at: usize, into: &mut [i16]) -> Filled
-    ensures { result.count ≤ length into.new }
+pub fn read_frame(rest: &[u8], into: &mut [i16]) -> Result<usize, Fault>
+    ensures { IfOk result (λ count. count ≤ length into.new) }
 {
-    let mut n: [i32; 33] = [0; 33];
-    let read = read_numbers(text, at, &mut n, 0);
-    let last = read.count;
-    let count = size_of(n[0]);
-    if last < 2 {
-        return wrong(0);
+    let mut numbers: [i32; 33] = [0; 33];
+    let read = read_all(rest, &mut numbers)?;
+    let [samples, codes @ ..] = &numbers[..read] else {
+        return Err(Fault);
+    };
+    let count = size_of(*samples);
+    if codes.is_empty() || into.len() < count {
+        return Err(Fault);
     }
-    if into.len() < count {
-        return wrong(0);
-    }
-    let right = repeat(&n[1..last], &mut into[0..count]);
-    Filled {
-        right: right & read.right,
-        count,
-    }
+    repeat(codes, &mut into[..count])?;
+    Ok(count)
 }
 
-// The window that a line's numbers give, and whether they are six.
-pub fn read_window(text: &[u8], at: usize) -> Bounds {
-    let mut n: [i32; 6] = [0; 6];
-    let right = read_just(text, at, &mut n);
-    let window = Window {
-        xlo: n[0],
-        xhi: n[1],
-        ylo: n[2],
-        yhi: n[3],
-        zlo: n[4],
-        zhi: n[5],
-    };
-    Bounds { right, window }
+// The window that a line's numbers give.
+pub fn read_window(rest: &[u8]) -> Result<Window, Fault> {
+    Ok(window_of(read_just(rest)?))
+}
+
+// The window of these bounds.
+pub fn window_of([xlo, xhi, ylo, yhi, zlo, zhi]: [i32; 6]) -> Window {
+    Window {
+        xlo,
+        xhi,
+        ylo,
+        yhi,
+        zlo,
+        zhi,
+    }
 }

@@ -2,30 +2,29 @@
 //     row W W ..      a row more: its first words, the others are 0
 //     words W W ..    these words more, a row or not
 //     again R N       copies of the last R rows until there are N; what a row names is in its copy as many rows further on
-ghost use Rattle.std.specs.Prelude.{◌*◌, ◌≤◌, ◌<◌, ◌≡◌, length};
+ghost use Rattle.std.specs.Prelude.{◌*◌, ◌≤◌, ◌<◌, length};
+ghost use Rattle.lines.specs.declared.rows.TheConstants.{MOST_WORDS};
 
-use crate::{Filled, Word, numbers};
+use crate::numbers::{read_all, read_just, size_of};
+use crate::{Fault, Line};
+use rules::{MOST_ROWS, ROW_WORDS};
 
-fn read_row(text: &[u8], at: usize, table: &mut [i32], words: usize) -> Filled
-    requires { (length table.old ≡ 1536) × (words ≤ 1536) }
-    ensures { result.count ≤ 1536 }
-{
-    if 1524 < words {
-        return numbers::wrong(words);
-    }
-    let end = words + 12;
-    let row = numbers::read_numbers(text, at, &mut table[words..end], 0);
-    Filled {
-        right: row.right,
-        count: end,
-    }
+// The words of one row more than a table may have.
+const MOST_WORDS: usize = (MOST_ROWS + 1) * ROW_WORDS;
+
+// The rows that lines have given so far, at most one more than a table may have.
+#[derive(Clone, Copy)]
+pub struct Rows {
+    words: [i32; MOST_WORDS],
+    count: usize,
+    ghost in_room: { count ≤ MOST_WORDS },
 }
 
 // A row that is named, so many rows further on.
 fn further(v: i32, rows: usize) -> i32
     requires { rows ≤ 128 }
 {
-    let row = numbers::size_of(v);
+    let row = size_of(v);
     if 128 < row {
         return v;
     }
@@ -34,89 +33,81 @@ fn further(v: i32, rows: usize) -> i32
 
 // A word of a table, as the copy has it that stands so many rows further on: words 1 and 2 of an operation name rows.
 fn copied(table: &[i32], at: usize, rows: usize) -> i32
-    requires { (at < length table.now) × (rows ≤ 128) }
+    requires in_bounds { at < length table.now }
+    requires few_rows { rows ≤ 128 }
 {
-    let place = at % 12;
-    if (place == 0) | (2 < place) | (table[at - place] < 3) {
-        return table[at];
-    }
-    further(table[at], rows)
-}
-
-// Copies the last rows until there are so many words.
-fn copy_rows(table: &mut [i32], words: usize, rows: usize, all: usize)
-    requires { (length table.old ≡ 1536) × ((12 * rows ≤ words) × ((words ≤ 1536) × (all ≤ 1536))) }
-{
-    let mut k = words;
-    while k < all {
-        table[k] = copied(table, k - 12 * rows, rows);
-        k += 1;
+    let place = at % ROW_WORDS;
+    if matches!(place, 1 | 2) && 3 <= table[at - place] {
+        further(table[at], rows)
+    } else {
+        table[at]
     }
 }
 
-fn read_again(text: &[u8], at: usize, table: &mut [i32], words: usize) -> Filled
-    requires { (length table.old ≡ 1536) × (words ≤ 1536) }
-    ensures { result.count ≤ 1536 }
+// Copies the last rows into the words from one on up to another.
+fn copy_rows(table: &mut [i32], from: usize, to: usize, rows: usize)
+    requires rows_stand { ROW_WORDS * rows ≤ from }
+    requires few_rows { rows ≤ 128 }
+    requires in_bounds { to ≤ length table.old }
 {
-    let mut n: [i32; 2] = [0; 2];
-    if !numbers::read_just(text, at, &mut n) {
-        return numbers::wrong(words);
-    }
-    let rows = numbers::size_of(n[0]);
-    let all = numbers::size_of(n[1]);
-    if words / 12 < rows {
-        return numbers::wrong(words);
-    }
-    if 128 < all {
-        return numbers::wrong(words);
-    }
-    let end = 12 * all;
-    copy_rows(table, words, rows, end);
-    Filled {
-        right: (0 < rows) & (words <= end),
-        count: end,
+    for k in from..to {
+        table[k] = copied(table, k - ROW_WORDS * rows, rows);
     }
 }
 
-// Adds what a line adds to a table, if it does.
-fn add(text: &[u8], word: Word, table: &mut [i32], words: usize) -> Filled
-    requires { (length table.old ≡ 1536) × (words ≤ 1536) }
-    ensures { result.count ≤ 1536 }
-{
-    if word.place == 0 {
-        return read_row(text, word.next, table, words);
-    }
-    if word.place == 1 {
-        return numbers::read_numbers(text, word.next, table, words);
-    }
-    if word.place == 2 {
-        return read_again(text, word.next, table, words);
-    }
-    Filled {
-        right: true,
-        count: words,
-    }
-}
-
-// The table of the lines from a position up to another, written into zeros: at most one row more than a table may have.
-pub fn read_table(text: &[u8], from: usize, to: usize, table: &mut [i32]) -> Filled
-    requires { (length table.old ≡ 1536) × (to ≤ length text.now) }
-    ensures { result.count ≤ 1536 }
-{
-    let mut words: usize = 0;
-    let mut at = from;
-    while at < to {
-        let start = crate::name_end(text, at);
-        let word = crate::read_word(text, start, b"row\nwords\nagain\n");
-        let more = add(text, word, table, words);
-        if !more.right {
-            return more;
+impl Rows {
+    // No row.
+    pub fn new() -> Rows {
+        Rows {
+            words: [0; MOST_WORDS],
+            count: 0,
         }
-        words = more.count;
-        at = crate::next_line(text, at);
     }
-    Filled {
-        right: true,
-        count: words,
+
+    // The words so far.
+    pub fn table(&self) -> &[i32] {
+        &self.words[..self.count]
+    }
+
+    fn add_row(&mut self, rest: &[u8]) -> Result<(), Fault> {
+        let start = self.count;
+        let end = start + ROW_WORDS;
+        if MOST_WORDS < end {
+            return Err(Fault);
+        }
+        read_all(rest, &mut self.words[start..end])?;
+        self.count = end;
+        Ok(())
+    }
+
+    fn add_words(&mut self, rest: &[u8]) -> Result<(), Fault> {
+        let start = self.count;
+        let more = read_all(rest, &mut self.words[start..])?;
+        self.count = start + more;
+        Ok(())
+    }
+
+    fn add_copies(&mut self, rest: &[u8]) -> Result<(), Fault> {
+        let [rows, all]: [i32; 2] = read_just(rest)?;
+        let rows = size_of(rows);
+        let all = size_of(all);
+        let count = self.count;
+        if rows == 0 || count / ROW_WORDS < rows || MOST_ROWS + 1 < all || all * ROW_WORDS < count {
+            return Err(Fault);
+        }
+        let end = all * ROW_WORDS;
+        copy_rows(&mut self.words, count, end, rows);
+        self.count = end;
+        Ok(())
+    }
+
+    // Adds what a line adds to a table, if it does.
+    pub fn add(&mut self, line: Line<'_>) -> Result<(), Fault> {
+        match line.word {
+            b"row" => self.add_row(line.rest),
+            b"words" => self.add_words(line.rest),
+            b"again" => self.add_copies(line.rest),
+            _ => Ok(()),
+        }
     }
 }

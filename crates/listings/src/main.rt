@@ -5,22 +5,20 @@
 use std::os::fd::AsRawFd;
 
 // Lists the text of this number, and answers whether there is one.
-fn list_numbered(rt: &HostRuntime, k: u64) -> bool {
-    let mut name: [u8; 2] = [b'0'; 2];
-    name[0] = b'0' + (k / 10 % 10) as u8;
-    name[1] = b'0' + (k % 10) as u8;
+fn list_numbered(rt: &HostRuntime, k: u8) -> bool {
+    let name = [b'0' + k / 10, b'0' + k % 10];
     let Some(file) = lines::open(rt, &name) else {
         return false;
     };
-    io::write_all(1, &name);
-    io::write_all(1, b": ");
+    lines::say(rt, format_args!("{k:02}: "));
     pipe::list_from(file.as_raw_fd());
     true
 }
 
 fn main(rt: HostRuntime) {
-    let mut k: u64 = 0;
-    while k < 100 && list_numbered(&rt, k) {
-        k += 1;
+    for k in 0..100 {
+        if !list_numbered(&rt, k) {
+            return;
+        }
     }
 }

@@ -30,77 +30,83 @@ mod asking;
 mod pictures;
 mod rewriting;
 
-ghost use Rattle.std.specs.Prelude.{◌≤◌, ◌<◌, length};
+use comparing::Axes;
+use lines::rows::Rows;
+use lines::{Fault, Line, say, say_bytes};
 
-use lines::{Word, rows};
+// What the lines have set so far: a zone, and of each other line what follows its word.
+#[derive(Clone, Copy, Default)]
+struct Held<'a> {
+    zone: Option<Rows>,
+    list: &'a [u8],
+    frame: &'a [u8],
+    window: &'a [u8],
+    axes: Axes<'a, u8>,
+}
 
-// The words of the lines, by their places: none, those of a table, those that set, and the calls from 11 on.
-const ZONE: usize = 4;
-
-const LIST: usize = 5;
-
-const FRAME: usize = 6;
-
-const WINDOW: usize = 7;
-
-const COLUMNS: usize = 8;
-
-const CODES: usize = 9;
-
-const FRAMES: usize = 10;
-
-// Keeps where the last line with each word goes on.
-fn keep(held: &mut [usize; 11], word: Word) {
-    let place = word.place;
-    let next = word.next;
-    if place <= FRAMES {
-        held[place] = next;
+impl Held<'_> {
+    // The table of the zone.
+    fn table(&self) -> &[i32] {
+        match &self.zone {
+            Some(rows) => rows.table(),
+            None => &[],
+        }
     }
 }
 
-// Answers the line at a position, if it asks; false if something of it is not right.
-fn obey(text: &[u8], line: usize, start: usize, word: Word, held: &[usize; 11]) -> bool
-    requires { (line < length text.now) × ((line ≤ start) × (start ≤ length text.now)) }
-{
-    let mut table: [i32; 1536] = [0; 1536];
-    let read = rows::read_table(text, held[ZONE], line + 1, &mut table);
-    if !read.right {
-        return false;
+// A row more; it belongs to no zone before the first one.
+fn add_row(held: &mut Held<'_>, line: Line<'_>) -> Result<(), Fault> {
+    match &mut held.zone {
+        Some(rows) => rows.add(line),
+        None => Ok(()),
     }
-    if word.place <= FRAMES {
-        return true;
-    }
-    io::write_all(1, &text[line..start]);
-    let words = read.count;
-    let right = asking::ask(text, word, held, &table[0..words]);
-    io::write_all(1, b"\n");
-    right
 }
 
-fn obey_all(text: &[u8]) {
-    let mut held: [usize; 11] = [text.len(); 11];
-    let mut at: usize = 0;
-    let mut line: u64 = 1;
-    while at < text.len() {
-        let start = lines::name_end(text, at);
-        let word = lines::read_word(
-            text,
-            start,
-            b"\nrow\nwords\nagain\nzone\nlist\nframe\nwindow\ncolumns\ncodes\nframes\ncheck_table\ntree_point\ntree_search\nlist_point\nlist_search\nlist_search_frames\nlist_waterfall\nrewrite_tree\nmake_list\nwrite_text\ncompare\n",
-        );
-        keep(&mut held, word);
-        if !obey(text, at, start, word, &held) {
-            lines::fault(line);
+// Asks what a line asks, after its name, and ends the line.
+fn ask(rt: &impl Print, held: &Held<'_>, line: Line<'_>) -> Result<(), Fault> {
+    say_bytes(rt, line.name);
+    let asked = asking::ask(rt, held, line);
+    say(rt, "\n");
+    asked
+}
+
+// Does what a line says: it sets something, or asks.
+fn obey<'a>(rt: &impl Print, held: &mut Held<'a>, line: Line<'a>) -> Result<(), Fault> {
+    match line.word {
+        b"" => {}
+        b"row" | b"words" | b"again" => add_row(held, line)?,
+        b"zone" => held.zone = Some(Rows::new()),
+        b"list" => held.list = line.rest,
+        b"frame" => held.frame = line.rest,
+        b"window" => held.window = line.rest,
+        b"columns" => held.axes.columns = line.rest,
+        b"codes" => held.axes.codes = line.rest,
+        b"frames" => held.axes.frames = line.rest,
+        _ => ask(rt, held, line)?,
+    }
+    Ok(())
+}
+
+// Obeys every line, up to the first that says nothing, or says it of something that is not right.
+fn obey_all(rt: &HostRuntime, text: &[u8]) {
+    let mut held = Held::default();
+    for (i, line) in text.split_inclusive(|b| *b == b'\n').enumerate() {
+        if obey(rt, &mut held, Line::read(line)).is_err() {
+            let number = i + 1;
+            say(
+                rt,
+                format_args!(
+                    "line {number} of the data is not right, or what it is about is not\n"
+                ),
+            );
             return;
         }
-        at = lines::next_line(text, at);
-        line += 1;
     }
 }
 
 // Answers every line of a file.
 pub fn answer_file(rt: &HostRuntime, name: &[u8]) {
-    let mut text = io::large_buffer();
+    let mut text: [u8; 65536] = [0; 65536];
     let size = lines::read_file(rt, name, &mut text);
-    obey_all(&text[..size]);
+    obey_all(rt, &text[..size]);
 }

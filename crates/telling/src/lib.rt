@@ -3,137 +3,114 @@
 
 #![tactic(auto)]
 
-ghost use Rattle.std.specs.Prelude.{◌≤◌, ◌<◌, length};
+ghost use Rattle.std.specs.Prelude.{◌≤◌, length};
 ghost use Rattle.rules.specs.ListWords.{product_count, place_of};
 ghost use Rattle.laws.specs.Sound.{Sound};
 ghost use Rattle.promises.specs.EachOnce.{EachOnce};
 
 use fate::told;
 use fate::told::{End, Told};
+use lines::{answers, say};
 use rules::{Axis, Product, Refusal, Window, Written};
+use std::fmt;
 
-pub fn say(bytes: &[u8]) {
-    io::write_all(1, bytes);
-}
+// The name of a primitive.
+#[derive(Clone, Copy)]
+struct Name(u8);
 
-fn say_number(n: u64) {
-    io::print_decimal(1, n);
-}
-
-// Two numbers, a tab between them, at a line's end.
-fn say_pair(a: u64, b: u64) {
-    say_number(a);
-    say(b"\t");
-    say_number(b);
-    say(b"\n");
-}
-
-// Says primitive i's name.
-fn say_name(i: usize) {
-    if 25 < i {
-        say(b"P");
-        say_number(i as u64);
-        return;
-    }
-    say(&[b'A' + i as u8]);
-}
-
-// Says primitive i's name if it is in a set, after a joint if another was said; whether one was said by now.
-fn say_member(set: u64, i: usize, said: bool, joint: &[u8]) -> bool
-    requires { i < 64 }
-{
-    if (set >> i) & 1 == 0 {
-        return said;
-    }
-    if said {
-        say(joint);
-    }
-    say_name(i);
-    true
-}
-
-// Says the names of a set of primitives.
-fn say_set(set: u64, joint: &[u8]) {
-    let mut said = false;
-    let mut i: usize = 0;
-    while i < 64 {
-        said = say_member(set, i, said, joint);
-        i += 1;
-    }
-}
-
-// Says what way k chooses.
-fn say_choice(k: u64, c: Product) {
-    say(b"way ");
-    say_number(k);
-    say(b": ");
-    say_set(c.plain, b" and ");
-    if c.cuts != 0 {
-        say(b" without ");
-        say_set(c.cuts, b" or ");
-    }
-    say(b": ");
-}
-
-fn say_dropped(axis: Axis) {
-    match axis {
-        Axis::Column => say(b"dropped, no column is left\n"),
-        Axis::Code => say(b"dropped, no code is left\n"),
-        Axis::Frame => say(b"dropped, no frame is left\n"),
-    }
-}
-
-// Says which cuts fall away.
-fn say_fallen(cuts: u64) {
-    if cuts != 0 {
-        say_set(cuts, b" falls away, ");
-        say(b" falls away, ");
-    }
-}
-
-fn say_again(first: u64) {
-    say(b"equal to way ");
-    say_number(first);
-    say(b"\n");
-}
-
-fn say_listed(number: u64, c: Product) {
-    say(b"kept as product ");
-    say_number(number);
-    say(b", words ");
-    say_number(c.plain);
-    say(b" ");
-    say_number(c.cuts);
-    say(b"\n");
-}
-
-// Says what a way with these cuts comes to.
-fn say_end(cuts: u64, end: End) {
-    match end {
-        End::Dropped(axis) => say_dropped(axis),
-        End::Again(c, first) => {
-            say_fallen(cuts ^ c.cuts);
-            say_again(first);
-        }
-        End::Listed(c, number) => {
-            say_fallen(cuts ^ c.cuts);
-            say_listed(number as u64, c);
+impl fmt::Display for Name {
+    fn fmt<W: fmt::Write>(&self, f: &mut fmt::Formatter<W>) -> fmt::Result {
+        match self.0 {
+            i @ 0..=25 => write!(f, "{}", char::from(b'A' + i)),
+            i => write!(f, "P{i}"),
         }
     }
 }
 
-// Says what way k chooses, and what it comes to.
-fn say_way(k: u64, way: Told) {
-    let chosen = way.chosen;
-    let end = way.end;
-    say_choice(k, chosen);
-    say_end(chosen.cuts, end);
+// The names of a set of primitives, with a joint between them.
+#[derive(Clone, Copy)]
+struct Names(u64, &'static str);
+
+impl fmt::Display for Names {
+    fn fmt<W: fmt::Write>(&self, f: &mut fmt::Formatter<W>) -> fmt::Result {
+        let mut joint = "";
+        for i in 0..64 {
+            if (self.0 >> i) & 1 != 0 {
+                write!(f, "{joint}{}", Name(i))?;
+                joint = self.1;
+            }
+        }
+        Ok(())
+    }
+}
+
+// What a way chooses.
+#[derive(Clone, Copy)]
+struct Choice(Product);
+
+impl fmt::Display for Choice {
+    fn fmt<W: fmt::Write>(&self, f: &mut fmt::Formatter<W>) -> fmt::Result {
+        let Product { plain, cuts } = self.0;
+        write!(f, "{}", Names(plain, " and "))?;
+        if cuts != 0 {
+            write!(f, " without {}", Names(cuts, " or "))?;
+        }
+        Ok(())
+    }
+}
+
+// The axis on which nothing is left.
+#[derive(Clone, Copy)]
+struct Lost(Axis);
+
+impl fmt::Display for Lost {
+    fn fmt<W: fmt::Write>(&self, f: &mut fmt::Formatter<W>) -> fmt::Result {
+        match self.0 {
+            Axis::Column => write!(f, "column"),
+            Axis::Code => write!(f, "code"),
+            Axis::Frame => write!(f, "frame"),
+        }
+    }
+}
+
+// Which cuts of a way fall away, those that its product has not.
+#[derive(Clone, Copy)]
+struct Fallen(u64);
+
+impl fmt::Display for Fallen {
+    fn fmt<W: fmt::Write>(&self, f: &mut fmt::Formatter<W>) -> fmt::Result {
+        if self.0 != 0 {
+            write!(f, "{} falls away, ", Names(self.0, " falls away, "))?;
+        }
+        Ok(())
+    }
+}
+
+// What a way comes to.
+#[derive(Clone, Copy)]
+struct Outcome(Told);
+
+impl fmt::Display for Outcome {
+    fn fmt<W: fmt::Write>(&self, f: &mut fmt::Formatter<W>) -> fmt::Result {
+        let cuts = self.0.chosen.cuts;
+        match self.0.end {
+            End::Dropped(axis) => write!(f, "dropped, no {} is left", Lost(axis)),
+            End::Again(product, first) => {
+                write!(f, "{}equal to way {first}", Fallen(cuts ^ product.cuts))
+            }
+            End::Listed(product, number) => {
+                let fallen = Fallen(cuts ^ product.cuts);
+                let Product { plain, cuts } = product;
+                write!(f, "{fallen}kept as product {number}, words {plain} {cuts}")
+            }
+        }
+    }
 }
 
 // Tells each way of a table, by the list for the window.
-fn tell_ways(table: &[i32], list: &[u64], w: Window)
+fn tell_ways(rt: &impl Print, table: &[i32], list: &[u64], window: Window)
     requires sound { Sound table.now }
-    requires each_once { EachOnce table.now w list.now }
+    requires each_once { EachOnce table.now window list.now }
     requires list_bound { product_count list.now ≤ 65536 }
 {
     let mut bits: [u64; 127] = [0; 127];
@@ -142,72 +119,73 @@ fn tell_ways(table: &[i32], list: &[u64], w: Window)
     let ways = fate::ways(table, &bits, &mut counts);
     let mut firsts: [u64; 65536] = [0; 65536];
     let mut products: usize = 0;
-    let mut k: u64 = 0;
-    while k < ways {
-        let way = told::tell_way(&mut firsts, &mut counts, table, &bits, list, w, k, products);
-        say_way(k, way);
+    for k in 0..ways {
+        let way = told::tell_way(
+            &mut firsts,
+            &mut counts,
+            table,
+            &bits,
+            list,
+            window,
+            k,
+            products,
+        );
+        say(
+            rt,
+            format_args!("way {k}: {}: {}\n", Choice(way.chosen), Outcome(way)),
+        );
         products = way.products;
-        k += 1;
     }
 }
 
-// Says the products of a list, a line each.
-fn say_products(list: &[u64], count: usize)
-    requires { place_of count ≤ length list.now }
-{
-    let mut k: usize = 0;
-    while k < count {
-        let c = layout::product_at(list, k);
-        say_pair(c.plain, c.cuts);
-        k += 1;
-    }
-}
-
-// Says a list as the listing program prints it.
-fn say_list(list: &[u64])
+// Says a list as the listing program prints it, its products a line each.
+fn say_list(rt: &impl Print, list: &[u64])
     requires { place_of (product_count list.now) ≤ length list.now }
 {
     let count = list[0];
-    say(b"list\t");
-    say_number(count);
-    say(b"\n");
-    say_products(list, count as usize);
+    say(rt, format_args!("list\t{count}\n"));
+    for k in 0..count as usize {
+        let Product { plain, cuts } = layout::product_at(list, k);
+        say(rt, format_args!("{plain}\t{cuts}\n"));
+    }
 }
 
-fn say_refused(r: Refusal) {
-    say(b"refused\t");
-    say_pair(r.number, r.value);
+// Says why there is none, at a line's end.
+fn say_refused(rt: &impl Print, refusal: Refusal) {
+    answers::refused(rt, refusal);
+    say(rt, "\n");
 }
 
 // Tells the ways of a table and its list, which there is always room for, or why there is none.
-fn tell_table(table: &[i32], w: Window)
+fn tell_table(rt: &impl Print, table: &[i32], window: Window)
     requires { Sound table.now }
 {
     let mut list: [u64; 131080] = [0; 131080];
-    let made = zone::make_list(table, w, &mut list);
+    let made = zone::make_list(table, window, &mut list);
     match made {
-        Written::Refused(r) => say_refused(r),
+        Written::Refused(refusal) => say_refused(rt, refusal),
         Written::Wrote(_) => {
-            tell_ways(table, &list, w);
-            say_list(&list);
+            tell_ways(rt, table, &list, window);
+            say_list(rt, &list);
         }
     }
 }
 
 // Tells the ways of the zone of a text and its list, or why there is none. The 127 rows of the table always suffice.
-pub fn tell_zone(text: &[u8], w: Window) {
+pub fn tell_zone(rt: &impl Print, text: &[u8], window: Window) {
     let mut table: [i32; 1524] = [0; 1524];
     let read = zone::read_text(text, &mut table);
     match read {
-        Written::Refused(r) => say_refused(r),
-        Written::Wrote(words) => tell_table(&table[..words], w),
+        Written::Refused(refusal) => say_refused(rt, refusal),
+        Written::Wrote(words) => tell_table(rt, &table[..words], window),
     }
 }
 
 // Reads the text on a descriptor whole, and tells its zone.
-pub fn tell_from(fd: i32, w: Window) {
+pub fn tell_from(rt: &impl Print, fd: i32, window: Window) {
     // One byte more than a text may have, so that a longer one shows.
     let mut text: [u8; 16385] = [0; 16385];
+    // std's read_exact fails where a text is shorter, and its read_to_end takes the heap
     let read = io::read_full(fd, &mut text);
-    tell_zone(&text[..read], w);
+    tell_zone(rt, &text[..read], window);
 }

@@ -4,9 +4,8 @@
 #![tactic(auto)]
 
 fn main(rt: HostRuntime) {
-    io::write_all(
-        1,
-        b"zone and window\tproducts\toutside\tinside\tout by column\tby code\tby frame\tdisagree\n",
-    );
+    let head =
+        "zone and window\tproducts\toutside\tinside\tout by column\tby code\tby frame\tdisagree\n";
+    lines::say(&rt, head);
     questions::answer_file(&rt, b"zones");
 }

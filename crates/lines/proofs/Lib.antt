@@ -1,2 +1,0 @@
--- The laws that the programs' proofs cite.
-pub mod Between
