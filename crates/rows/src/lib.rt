@@ -5,8 +5,10 @@
 ghost use Rattle.std.specs.Prelude.{◌<◌, ◌≡◌};
 ghost use Rattle.rows.specs.Lines.{coming_links, part_of};
 
+mod plan;
 mod puts;
 
+pub use plan::PlanRows;
 pub use puts::{put_both, put_either, put_leaf};
 
 // What a row is: with a primitive, without one, either of two parts, or both.
