@@ -17,8 +17,8 @@ use Rattle.rows.specs.declared.RowKind.TheVariants.{With, Without, Either, Both}
 use Rattle.rows.specs.declared.Links.{Links}
 use Rattle.rows.specs.declared.Part.{Part}
 use Rattle.rows.specs.declared.PlanRow.{PlanRow}
-use Rattle.rows.specs.Rows.{links_at, next_at, done_at, with_links, Inner}
-use Rattle.rows.specs.Lines.{rows_of, line, lines, coming_links, part_of, line_in, Stands}
+use Rattle.rows.specs.Rows.{links_at, next_at, done_at, Inner}
+use Rattle.rows.specs.Lines.{rows_of, line, lines, with_pair, part_of, line_in, Stands}
 use Rattle.filling.specs.Filling.{MasksOf}
 use Rattle.sizing.specs.Sizes.{Given, SizedTo}
 use Rattle.laying.specs.Laying.{plan_of, all_rows, all_lines, Laying}
@@ -108,23 +108,21 @@ module _ {t : List ℤ} {bits : List ℕ} {rows : List PlanRow} {seen x : ℕ} (
       pub pair_fits : (one : Bool) → p ≡ if◌then◌else◌ one (either lhs rhs) (both lhs rhs) → (x + 1 < x + 1 + n) × (x + 1 + n < 127)
       pair_fits one e = (omega (arith, right_rows, some_row rhs), omega (arith, right_rows, some_row lhs, parts_rows one e, within_all few_all L f, few_all))
 
-      abbrev put : RowKind → ℕ → ℕ → Option ℕ → ℕ → Option ℕ → List PlanRow
-      put kind left next done follows precedes = with_links (with_links (with_links rows x (line kind left next done)) (x + 1) (coming_links b follows None)) left (coming_links a next precedes)
-
       laid_parts : (kind : RowKind) → Inner kind → (follows : ℕ) (precedes : Option ℕ) → rows_of (plan_of t f.now) ≡ rows_of lhs + rows_of rhs + 1
-          → Pair (line_in (all_lines t)) x kind lhs rhs f.now.next follows f.now.done precedes → {now : List PlanRow} → now ≡ put kind (x + 1 + n) (next_at rows x) (done_at rows x) follows precedes → Laying t seen now (x + 1)
+          → Pair (line_in (all_lines t)) x kind lhs rhs f.now.next follows f.now.done precedes → {now : List PlanRow} → now ≡ with_pair rows x (line kind (x + 1 + n) (next_at rows x) (done_at rows x)) a b follows precedes → Laying t seen now (x + 1)
       laid_parts kind i follows precedes sum pair e =
-          subst (λ (m : List PlanRow). Laying t seen m (x + 1)) (sym (e ∙ (λ j. put kind (x + 1 + right_rows j) (next_is j) (done_is j) follows precedes)))
+          subst (λ (m : List PlanRow). Laying t seen m (x + 1)) (sym (e ∙ (λ j. with_pair rows x (line kind (x + 1 + right_rows j) (next_is j) (done_is j)) a b follows precedes)))
           (laid_pair few_all L f kind i a b follows precedes pair sum (omega (arith, row_in)) (omega (arith, row_in)))
 
-      pub laid_either : p ≡ either lhs rhs → {now : List PlanRow} → now ≡ put Either (x + 1 + n) (next_at rows x) (done_at rows x) (next_at rows x) None → Laying t seen now (x + 1)
-      unfolding lines
-      laid_either e h =
-          laid_parts Either tt f.now.next None (parts_rows true e) (pair_of (line_in (all_lines t)) x Either lhs rhs f.now.next f.now.next f.now.done None (whole e))
-          (h ∙ ap (λ (k : ℕ). put Either (x + 1 + n) (next_at rows x) (done_at rows x) k None) next_is)
+      module _ {one other : Part} (ea : one ≡ a) (eb : other ≡ b) {now : List PlanRow} where
+        pub laid_either : p ≡ either lhs rhs → now ≡ with_pair rows x (line Either (x + 1 + n) (next_at rows x) (done_at rows x)) one other (next_at rows x) None → Laying t seen now (x + 1)
+        unfolding lines
+        laid_either e h =
+            laid_parts Either tt f.now.next None (parts_rows true e) (pair_of (line_in (all_lines t)) x Either lhs rhs f.now.next f.now.next f.now.done None (whole e))
+            (h ∙ (λ j. with_pair rows x (line Either (x + 1 + n) (next_at rows x) (done_at rows x)) (ea j) (eb j) (next_is j) None))
 
-      pub laid_both : p ≡ both lhs rhs → {now : List PlanRow} → now ≡ put Both (x + 1 + n) (next_at rows x) (done_at rows x) (x + 1 + n) (Some (x + 1)) → Laying t seen now (x + 1)
-      unfolding lines
-      laid_both e h =
-          laid_parts Both tt (x + 1 + rows_of rhs) (Some (x + 1)) (parts_rows false e) (pair_of (line_in (all_lines t)) x Both lhs rhs f.now.next (x + 1 + rows_of rhs) f.now.done (Some (x + 1)) (whole e))
-          (h ∙ ap (λ (k : ℕ). put Both (x + 1 + n) (next_at rows x) (done_at rows x) (x + 1 + k) (Some (x + 1))) right_rows)
+        pub laid_both : p ≡ both lhs rhs → now ≡ with_pair rows x (line Both (x + 1 + n) (next_at rows x) (done_at rows x)) one other (x + 1 + n) (Some (x + 1)) → Laying t seen now (x + 1)
+        unfolding lines
+        laid_both e h =
+            laid_parts Both tt (x + 1 + rows_of rhs) (Some (x + 1)) (parts_rows false e) (pair_of (line_in (all_lines t)) x Both lhs rhs f.now.next (x + 1 + rows_of rhs) f.now.done (Some (x + 1)) (whole e))
+            (h ∙ (λ j. with_pair rows x (line Both (x + 1 + n) (next_at rows x) (done_at rows x)) (ea j) (eb j) (x + 1 + right_rows j) (Some (x + 1))))

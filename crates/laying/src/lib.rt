@@ -9,7 +9,7 @@ ghost use Rattle.sizing.specs.Sizes.{Given, SizedTo};
 ghost use Rattle.laying.specs.Laying.{all_rows, Laying, Laid};
 
 use choice::Step;
-use rows::{Links, Part, PlanRow, RowKind};
+use rows::{Part, PlanRow, PlanRows, RowKind};
 
 // Lays out the row that is to come at a place: its own links, and its parts as rows that are to come; of a leaf the masks too.
 fn lay_row(
@@ -24,8 +24,7 @@ fn lay_row(
     requires laying { Laying table.now seen rows.old at × (at < all_rows table.now) }
     ensures { Laying table.now seen rows.new (at + 1) }
 {
-    let here = rows[at].links;
-    let part = here.part();
+    let part = rows[at].links.part();
     let right = at as u8 + 1;
     match choice::read_step(table, bits, part.row, part.within) {
         Step::With(bit) => {
@@ -36,55 +35,36 @@ fn lay_row(
             rows::put_leaf(rows, at, RowKind::Without, bit, seen);
         }
         Step::Either(lhs, lhs_in, rhs, rhs_in) => {
-            let own = Links {
-                kind: RowKind::Either,
-                left: right + sizes[rhs],
-                ..here
-            };
-            let lhs = Part {
-                row: lhs,
-                within: lhs_in,
-            };
-            let rhs = Part {
-                row: rhs,
-                within: rhs_in,
-            };
-            rows::put_pair(rows, at, own, lhs, rhs, own.next, None);
+            let left = right + sizes[rhs];
+            let lhs = Part::new(lhs, lhs_in);
+            let rhs = Part::new(rhs, rhs_in);
+            rows::put_either(rows, at, left, lhs, rhs);
         }
         Step::Both(lhs, lhs_in, rhs, rhs_in) => {
-            let own = Links {
-                kind: RowKind::Both,
-                left: right + sizes[rhs],
-                ..here
-            };
-            let lhs = Part {
-                row: lhs,
-                within: lhs_in,
-            };
-            let rhs = Part {
-                row: rhs,
-                within: rhs_in,
-            };
-            rows::put_pair(rows, at, own, lhs, rhs, own.left, Some(right));
+            let left = right + sizes[rhs];
+            let lhs = Part::new(lhs, lhs_in);
+            let rhs = Part::new(rhs, rhs_in);
+            rows::put_both(rows, at, left, lhs, rhs);
         }
     }
 }
 
-// The rows of a zone's plan, for the primitives that share a point with the window; how many there are.
-pub fn lay(table: &[i32], bits: &[u64; 127], seen: u64, rows: &mut [PlanRow; 127]) -> usize
+// The rows of a zone's plan, for the primitives that share a point with the window.
+pub fn lay(table: &[i32], bits: &[u64; 127], seen: u64) -> PlanRows
     requires { Given table.now bits.now }
-    ensures { Laid table.now seen rows.new result }
+    ensures { Laid table.now seen result.rows result.end }
 {
     let sizes = sizing::sizes_of(table, bits);
     let root = Part {
         row: table::root(table),
         within: true,
     };
-    rows[0].links = root.links(sizes[root.row], None);
     let end = usize::from(sizes[root.row]);
+    let mut rows: [PlanRow; 127] = [rows::BLANK; 127];
+    rows[0].links = root.links(sizes[root.row], None);
     for at in 0..end {
-        lay_row(table, bits, &sizes, seen, rows, at);
+        lay_row(table, bits, &sizes, seen, &mut rows, at);
     }
-    filling::fill(rows, end);
-    end
+    filling::fill(&mut rows, end);
+    PlanRows { rows, end }
 }

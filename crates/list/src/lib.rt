@@ -11,24 +11,22 @@ ghost use Rattle.rules.specs.ListCalls.{most_choices, window_refusal, ListMade};
 ghost use Rattle.laws.specs.Plans.{count};
 ghost use Rattle.laws.specs.Sound.{Sound};
 ghost use Rattle.choice.specs.Steps.{Numbered, root_plan};
-ghost use Rattle.rows.specs.Rows.{SoundRows};
 ghost use Rattle.walk.specs.Tracks.{walk_at, start_of};
 ghost use Rattle.list.specs.Words.{Measured};
 
-use rows::PlanRow;
+use rows::PlanRows;
 use rules::{Refusal, Rule, Window};
 
 // Words that are enough: room for every way where that is there, so that one walk does; else exactly what the products take.
-fn measure(list: &mut [u64], rows: &[PlanRow; 127], end: usize, seen: u64, ways: u64) -> usize
-    requires sound_rows { SoundRows rows.now end }
-    requires seen_len_bound { (length (walk_at rows.now end (start_of seen)) ≤ ways) × (ways ≤ most_choices) }
-    ensures { Measured (place_of (length (walk_at rows.now end (start_of seen)))) (length list.old) result × (list.new ≡ list.old) }
+fn measure(list: &mut [u64], plan: &PlanRows, seen: u64, ways: u64) -> usize
+    requires { (length (walk_at plan.now.rows plan.now.end (start_of seen)) ≤ ways) × (ways ≤ most_choices) }
+    ensures { Measured (place_of (length (walk_at plan.now.rows plan.now.end (start_of seen)))) (length list.old) result × (list.new ≡ list.old) }
 {
     let most = layout::place_of(ways as usize);
     if most <= list.len() {
         return most;
     }
-    layout::place_of(walk::walk(rows, end, seen, list, false))
+    layout::place_of(walk::walk(plan, seen, list, false))
 }
 
 // The ways are not too many: the room, then the list.
@@ -46,13 +44,12 @@ fn make_of(
     ensures { ListMade table.now w list.old list.new result }
 {
     let seen = reach::seen_in(table, w);
-    let mut rows: [PlanRow; 127] = [rows::BLANK; 127];
-    let end = laying::lay(table, bits, seen, &mut rows);
-    let needed = measure(list, &rows, end, seen, ways);
+    let plan = laying::lay(table, bits, seen);
+    let needed = measure(list, &plan, seen, ways);
     if list.len() < needed {
         return Err(Refusal::new(Rule::Room, needed));
     }
-    let n = walk::walk(&rows, end, seen, list, true);
+    let n = walk::walk(&plan, seen, list, true);
     layout::write_header(list, w, solids, n);
     Ok(layout::place_of(n))
 }

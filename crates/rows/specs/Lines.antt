@@ -6,7 +6,8 @@ use Rattle.rows.specs.declared.RowKind.{RowKind}
 use Rattle.rows.specs.declared.RowKind.TheVariants.{With, Without, Either, Both}
 use Rattle.rows.specs.declared.Links.{Links}
 use Rattle.rows.specs.declared.Part.{Part}
-use Rattle.rows.specs.Rows.{blank_links}
+use Rattle.rows.specs.declared.PlanRow.{PlanRow}
+use Rattle.rows.specs.Rows.{blank_links, with_links}
 
 unfoldable pub rows_of : Plan → ℕ
 rows_of (with_it i) = 1
@@ -31,6 +32,11 @@ side_of false = Without
 
 abbrev pub coming_links : Part → ℕ → Option ℕ → Links
 coming_links part next prior = line (side_of part.within) part.row next prior
+
+-- a row is given its links, and its parts, as rows that are to come: the right one comes after it, and the left one where its links say
+abbrev pub with_pair : List PlanRow → ℕ → Links → Part → Part → ℕ → Option ℕ → List PlanRow
+with_pair rows x own lhs rhs follows precedes =
+    with_links (with_links (with_links rows x own) (x + 1) (coming_links rhs follows None)) own.left (coming_links lhs own.next precedes)
 
 -- the part that such a row stands for
 abbrev pub is_in : RowKind → Bool

@@ -5,9 +5,11 @@
 ghost use Rattle.std.specs.Prelude.{◌<◌, ◌≡◌};
 ghost use Rattle.rows.specs.Lines.{coming_links, part_of};
 
+mod plan;
 mod puts;
 
-pub use puts::{put_leaf, put_pair};
+pub use plan::PlanRows;
+pub use puts::{put_both, put_either, put_leaf};
 
 // What a row is: with a primitive, without one, either of two parts, or both.
 #[derive(Clone, Copy, PartialEq, Eq, Debug)]
@@ -66,6 +68,12 @@ pub struct Part {
 }
 
 impl Part {
+    pub fn new(row: usize, within: bool) -> Part
+        ensures { result ≡ record { row = row; within = within } }
+    {
+        Part { row, within }
+    }
+
     // The links of a row that is to come: its side stands in place of its kind, and its row of the table in place of its left part.
     pub fn links(self, next: u8, done: Option<u8>) -> Links
         requires { self.row < 256 }

@@ -2,11 +2,11 @@
 ghost use Rattle.std.specs.Prelude.{◌+◌, ◌≤◌, true, false, [], ◌∷◌, ◌≡◌, length, MatchOption};
 ghost use Rattle.rules.specs.ListWords.{place_of};
 ghost use Rattle.rules.specs.ListCalls.{most_choices};
-ghost use Rattle.rows.specs.Rows.{InRows, SoundRows};
+ghost use Rattle.rows.specs.Rows.{InRows};
 ghost use Rattle.walk.specs.Tracks.{aged_at, open_at, end_of, walk_at, start_of, Held, Goes, Put};
 
 use places::{Aside, Place};
-use rows::PlanRow;
+use rows::{PlanRow, PlanRows};
 use rules::Product;
 
 // The right part that is done just before this place holds a repeat.
@@ -21,38 +21,38 @@ fn aged(rows: &[PlanRow; 127], at: Place) -> bool
 }
 
 // The walk goes on from here: it is not at the end, what is chosen is in reach, and the part that is done holds no repeat.
-fn is_open(rows: &[PlanRow; 127], end: usize, at: Place) -> bool
-    requires { SoundRows rows.now end × (at.row ≤ end) }
-    ensures { result ≡ open_at rows.now end at }
+fn is_open(plan: &PlanRows, at: Place) -> bool
+    requires { at.row ≤ plan.now.end }
+    ensures { result ≡ open_at plan.now.rows plan.now.end at }
 {
-    at.row != end && at.plain & (at.reach & rows[at.row].masks.span) == at.plain && !aged(rows, at)
+    at.row != plan.end
+        && at.plain & (at.reach & plan.rows[at.row].masks.span) == at.plain
+        && !aged(&plan.rows, at)
 }
 
 // Goes on from a place as long as it can.
-fn run(rows: &[PlanRow; 127], end: usize, aside: &mut Aside, from: Place) -> Place
-    requires sound_rows { SoundRows rows.now end }
-    requires held { Held end (from ∷ aside.old) }
-    ensures goes { Goes rows.now end (from ∷ aside.old) (result ∷ aside.new) }
-    ensures stops { open_at rows.now end result ≡ false }
+fn run(plan: &PlanRows, aside: &mut Aside, from: Place) -> Place
+    requires { Held plan.now.end (from ∷ aside.old) }
+    ensures goes { Goes plan.now.rows plan.now.end (from ∷ aside.old) (result ∷ aside.new) }
+    ensures stops { open_at plan.now.rows plan.now.end result ≡ false }
 {
     let mut at = from;
-    while is_open(rows, end, at) {
-        places::fork(rows, aside, at);
-        at = places::onward(rows, at);
+    while is_open(plan, at) {
+        places::fork(&plan.rows, aside, at);
+        at = places::onward(&plan.rows, at);
     }
     at
 }
 
 // The product where a walk stops, if there is one.
 #[tactic(auto, unfolding(crate::specs::Tracks::end_of))]
-fn product_at(rows: &[PlanRow; 127], end: usize, at: Place) -> Option<Product>
-    requires { SoundRows rows.now end }
-    ensures { MatchOption result (end_of rows.now end at ≡ []) (λ product. end_of rows.now end at ≡ product ∷ []) }
+fn product_at(plan: &PlanRows, at: Place) -> Option<Product>
+    ensures { MatchOption result (end_of plan.now.rows plan.now.end at ≡ []) (λ product. end_of plan.now.rows plan.now.end at ≡ product ∷ []) }
 {
-    if at.row != end || at.plain & at.reach != at.plain {
+    if at.row != plan.end || at.plain & at.reach != at.plain {
         return None;
     }
-    if repeats::stale_at(rows, 0, at.plain, at.cuts, at.reach) {
+    if repeats::stale_at(&plan.rows, 0, at.plain, at.cuts, at.reach) {
         return None;
     }
     Some(Product {
@@ -62,20 +62,12 @@ fn product_at(rows: &[PlanRow; 127], end: usize, at: Place) -> Option<Product>
 }
 
 // Counts the product where a walk stops, if there is one, and writes it after so many if products are to be kept.
-fn finish(
-    rows: &[PlanRow; 127],
-    end: usize,
-    at: Place,
-    list: &mut [u64],
-    count: usize,
-    keeps: bool,
-) -> usize
-    requires sound_rows { SoundRows rows.now end }
-    requires at_bound { count + length (end_of rows.now end at) ≤ most_choices }
-    requires at_in_bounds { keeps ≡ true → place_of (count + length (end_of rows.now end at)) ≤ length list.old }
-    ensures { Put keeps list.old list.new count result (end_of rows.now end at) }
+fn finish(plan: &PlanRows, at: Place, list: &mut [u64], count: usize, keeps: bool) -> usize
+    requires few { count + length (end_of plan.now.rows plan.now.end at) ≤ most_choices }
+    requires room { keeps ≡ true → place_of (count + length (end_of plan.now.rows plan.now.end at)) ≤ length list.old }
+    ensures { Put keeps list.old list.new count result (end_of plan.now.rows plan.now.end at) }
 {
-    let Some(product) = product_at(rows, end, at) else {
+    let Some(product) = product_at(plan, at) else {
         return count;
     };
     if keeps {
@@ -85,11 +77,10 @@ fn finish(
 }
 
 // All products of the rows, in order: how many there are, and if they are to be kept they are written after the header.
-pub fn walk(rows: &[PlanRow; 127], end: usize, seen: u64, list: &mut [u64], keeps: bool) -> usize
-    requires sound_rows { SoundRows rows.now end }
-    requires seen_len_bound { length (walk_at rows.now end (start_of seen)) ≤ most_choices }
-    requires seen_in_bounds { keeps ≡ true → place_of (length (walk_at rows.now end (start_of seen))) ≤ length list.old }
-    ensures { Put keeps list.old list.new 0 result (walk_at rows.now end (start_of seen)) }
+pub fn walk(plan: &PlanRows, seen: u64, list: &mut [u64], keeps: bool) -> usize
+    requires few { length (walk_at plan.now.rows plan.now.end (start_of seen)) ≤ most_choices }
+    requires room { keeps ≡ true → place_of (length (walk_at plan.now.rows plan.now.end (start_of seen))) ≤ length list.old }
+    ensures { Put keeps list.old list.new 0 result (walk_at plan.now.rows plan.now.end (start_of seen)) }
 {
     let mut aside = Aside::new();
     aside.push(Place {
@@ -100,8 +91,8 @@ pub fn walk(rows: &[PlanRow; 127], end: usize, seen: u64, list: &mut [u64], keep
     });
     let mut count = 0;
     while let Some(from) = aside.pop() {
-        let at = run(rows, end, &mut aside, from);
-        count = finish(rows, end, at, list, count, keeps);
+        let at = run(plan, &mut aside, from);
+        count = finish(plan, at, list, count, keeps);
     }
     count
 }

@@ -10,27 +10,27 @@ pub loop-from-init : goal.loop-from-init
 loop-from-init c =
     let start = start_of c.args.seen in
     let e = c.push.ensures ∙ ap (λ (aside : List Place). start ∷ aside) c.new-aside.ensures in
-    subst (λ (aside : List Place). Walked c.args.rows.now c.args.end (walk_at c.args.rows.now c.args.end start) c.args.keeps c.args.list.now c.args.list.now aside 0) (sym e)
-    (walked_none c.args.rows.now c.args.end start c.args.keeps c.args.list.now (omega arith))
+    subst (λ (aside : List Place). Walked c.args.plan.now.rows c.args.plan.now.end (walk_at c.args.plan.now.rows c.args.plan.now.end start) c.args.keeps c.args.list.now c.args.list.now aside 0) (sym e)
+    (walked_none c.args.plan.now.rows c.args.plan.now.end start c.args.keeps c.args.list.now (omega arith))
 
-pub finish-count-requires-clause-at_bound : goal.finish-count-requires-clause-at_bound
-finish-count-requires-clause-at_bound c =
-    omega (arith, c.requires.seen_len_bound, end_fits c.requires.sound_rows.linked c.loop-from.invariant c.in-Some.ensures c.run-at.ensures.goes c.run-at.ensures.stops)
+pub finish-count-requires-clause-few : goal.finish-count-requires-clause-few
+finish-count-requires-clause-few c =
+    omega (arith, c.requires.few, end_fits c.args.plan.now.sound.linked c.loop-from.invariant c.in-Some.ensures c.run-at.ensures.goes c.run-at.ensures.stops)
 
-pub finish-count-requires-clause-at_in_bounds : goal.finish-count-requires-clause-at_in_bounds
-finish-count-requires-clause-at_in_bounds c k =
+pub finish-count-requires-clause-room : goal.finish-count-requires-clause-room
+finish-count-requires-clause-room c k =
     omega (
       arith,
-      c.requires.seen_in_bounds k,
-      end_fits c.requires.sound_rows.linked c.loop-from.invariant c.in-Some.ensures c.run-at.ensures.goes c.run-at.ensures.stops,
+      c.requires.room k,
+      end_fits c.args.plan.now.sound.linked c.loop-from.invariant c.in-Some.ensures c.run-at.ensures.goes c.run-at.ensures.stops,
       put_length c.args.keeps c.loop-from.invariant.put,
     )
 
 pub loop-from-smaller : goal.loop-from-smaller
-loop-from-smaller c = fewer c.requires.sound_rows.linked c.loop-from.invariant c.in-Some.ensures c.run-at.ensures.goes c.run-at.ensures.stops
+loop-from-smaller c = fewer c.args.plan.now.sound.linked c.loop-from.invariant c.in-Some.ensures c.run-at.ensures.goes c.run-at.ensures.stops
 
 pub loop-from-preserved : goal.loop-from-preserved
-loop-from-preserved c = walked_more c.requires.sound_rows.linked c.loop-from.invariant c.in-Some.ensures c.run-at.ensures.goes c.run-at.ensures.stops c.finish-count.ensures
+loop-from-preserved c = walked_more c.args.plan.now.sound.linked c.loop-from.invariant c.in-Some.ensures c.run-at.ensures.goes c.run-at.ensures.stops c.finish-count.ensures
 
 pub returns : goal.returns
 returns c = walked_all c.loop-from.invariant c.in_default.ensures.0

@@ -1,0 +1,12 @@
+// A plan that is laid out as rows.
+ghost use Rattle.rows.specs.Rows.{SoundRows};
+
+use crate::PlanRow;
+
+// The rows of a plan: those before the end, and what lies behind is blank.
+#[derive(Clone, Copy)]
+pub struct PlanRows {
+    pub rows: [PlanRow; 127],
+    pub end: usize,
+    pub ghost sound: { SoundRows rows end },
+}
