@@ -5,7 +5,7 @@
 ghost use Rattle.std.specs.Prelude.{◌≤◌, length};
 
 use lines::{Fault, answers, numbers, say};
-use rules::{Located, Point, Refusal, Window, Written};
+use rules::{Point, Refusal, Rule, Window};
 use std::fmt;
 
 // What is found at a point: list and tree say the same, or the list refuses a point that is out of its window, or else they disagree.
@@ -78,20 +78,20 @@ struct Pair<'a> {
 
 // What a refusal says: the axis on which a point is out of the window, where it is refused for that.
 fn refusal_told(refusal: Refusal) -> Finding {
-    match (refusal.number, refusal.value) {
-        (10, 0) => Finding::OutByColumn,
-        (10, 1) => Finding::OutByCode,
-        (10, 2) => Finding::OutByFrame,
+    match (refusal.rule, refusal.value) {
+        (Rule::Outside, 0) => Finding::OutByColumn,
+        (Rule::Outside, 1) => Finding::OutByCode,
+        (Rule::Outside, 2) => Finding::OutByFrame,
         _ => Finding::Disagree,
     }
 }
 
 // What an answer about a point says.
-fn told(answer: Located) -> Finding {
+fn told(answer: Result<bool, Refusal>) -> Finding {
     match answer {
-        Located::Outside => Finding::Outside,
-        Located::Inside => Finding::Inside,
-        Located::Refused(refusal) => refusal_told(refusal),
+        Ok(false) => Finding::Outside,
+        Ok(true) => Finding::Inside,
+        Err(refusal) => refusal_told(refusal),
     }
 }
 
@@ -140,12 +140,12 @@ fn compare_list(rt: &impl Print, table: &[i32], window: Window, axes: Axes<'_, i
     // room for 12 products: a zone that has more is told as refused
     let mut list: [u64; 32] = [0; 32];
     match zone::make_list(table, window, &mut list) {
-        Written::Wrote(_) => {
+        Ok(_) => {
             let products = list[0];
             let counts = ask_all(Pair { table, list: &list }, axes);
             say(rt, format_args!("{products}{counts}"));
         }
-        Written::Refused(refusal) => answers::refused(rt, refusal),
+        Err(refusal) => answers::refused(rt, refusal),
     }
 }
 

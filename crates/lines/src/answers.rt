@@ -1,6 +1,6 @@
 // What an answer tells, after the name of what was asked.
 use crate::say;
-use rules::{Checked, Located, Refusal, Searched, Written};
+use rules::{Hit, Refusal};
 use std::fmt::Display;
 
 // What a buffer is filled with before the call; no list and no triple here has such a word.
@@ -10,44 +10,44 @@ pub const FILL: u32 = 777777;
 pub fn refused(rt: &impl Print, refusal: Refusal) {
     say(
         rt,
-        format_args!("refused\t{}\t{}", refusal.number, refusal.value),
+        format_args!("refused\t{}\t{}", refusal.rule.number(), refusal.value),
     );
 }
 
 // Says what the check of a table answers.
-pub fn checked(rt: &impl Print, answer: Checked) {
+pub fn checked(rt: &impl Print, answer: Result<(), Refusal>) {
     match answer {
-        Checked::Sound => say(rt, "sound"),
-        Checked::Refused(refusal) => refused(rt, refusal),
+        Ok(()) => say(rt, "sound"),
+        Err(refusal) => refused(rt, refusal),
     }
 }
 
 // Says what a question about one point answers.
-pub fn located(rt: &impl Print, answer: Located) {
+pub fn located(rt: &impl Print, answer: Result<bool, Refusal>) {
     match answer {
-        Located::Inside => say(rt, "inside"),
-        Located::Outside => say(rt, "outside"),
-        Located::Refused(refusal) => refused(rt, refusal),
+        Ok(true) => say(rt, "inside"),
+        Ok(false) => say(rt, "outside"),
+        Err(refusal) => refused(rt, refusal),
     }
 }
 
 // Says what the search of a frame answers.
-pub fn searched(rt: &impl Print, answer: Searched) {
+pub fn searched(rt: &impl Print, answer: Result<Option<Hit>, Refusal>) {
     match answer {
-        Searched::Clear => say(rt, "clear"),
-        Searched::Hit { first, count } => say(rt, format_args!("hit\t{first}\t{count}")),
-        Searched::Refused(refusal) => refused(rt, refusal),
+        Ok(None) => say(rt, "clear"),
+        Ok(Some(hit)) => say(rt, format_args!("hit\t{}\t{}", hit.first, hit.count)),
+        Err(refusal) => refused(rt, refusal),
     }
 }
 
 // Says how a call that writes went, and answers how many words it wrote, none if it was refused.
-pub fn written(rt: &impl Print, answer: Written) -> usize {
+pub fn written(rt: &impl Print, answer: Result<usize, Refusal>) -> usize {
     match answer {
-        Written::Wrote(n) => {
+        Ok(n) => {
             say(rt, format_args!("wrote\t{n}"));
             n
         }
-        Written::Refused(refusal) => {
+        Err(refusal) => {
             refused(rt, refusal);
             0
         }

@@ -15,10 +15,7 @@ pub trait FromStart: Copy {
 // A number of the rules.
 impl FromStart for i32 {
     fn from_start(text: &[u8]) -> Option<(i32, &[u8])> {
-        let number = number::read_number(text, 0);
-        if !number.right {
-            return None;
-        }
+        let number = number::read_number(text, 0)?;
         Some((number.value, text.get(number.next..)?))
     }
 }

@@ -10,6 +10,7 @@ use lib.Dec.{leb}
 use lib.IntN.{ℤ}
 use lib.ListN.{length, drop, length-append}
 use Rattle.ground.proofs.Counting.{first_kept}
+use Rattle.rules.specs.declared.Rule.TheVariants.{Room}
 use Rattle.rules.specs.declared.Product.{Product}
 use Rattle.rules.specs.declared.Refusal.{Refusal}
 use Rattle.rules.specs.declared.Window.{Window}
@@ -50,7 +51,7 @@ module _ (t : List ℤ) where
       let words = length (zone_list t full_range) in
       let choices = choices_refusal (expansion (tree_of t)) in
       let room = (first_kept choices _ (first_kept (window_refusal full_range) _ (first_kept (table_refusal t) _ e).1).1).1 in
-      let fits = leb-true words listing_room (unless_kept (leb words listing_room) 8 words (first_kept (room_refusal words listing_room) [] room).0) in
+      let fits = leb-true words listing_room (unless_kept (leb words listing_room) Room words (first_kept (room_refusal words listing_room) [] room).0) in
       omega (arith, fits, list_length full_range (length (primitives t)) all)
 
   -- what is printed has room
@@ -64,8 +65,8 @@ module _ (t : List ℤ) where
   module _ (before after : List ℕ) (size : length before ≡ listing_room) where
     -- the list was refused
     pub refused_listing : {r : Refusal} → ListMade t full_range before after (Err r) → table_listing t ≡ refusal_line r
-    refused_listing made =
-        let refusal = refused_some (rules (length before)) (length (zone_list t full_range)) made.answer in
+    refused_listing {r} made =
+        let refusal = refused_some (rules (length before)) (length (zone_list t full_range)) r made.answer in
         ap (λ (x : Option Refusal). printed x all) (ap rules (sym size) ∙ refusal)
 
     -- or it was made: its products are those of the zone, and all of them are there

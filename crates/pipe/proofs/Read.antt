@@ -13,7 +13,7 @@ use lib.IntN.{ℤ}
 use lib.ListN.{length, take}
 use Rattle.ground.specs.Lists.{or_else, first_of}
 use Rattle.ground.proofs.Counting.{or_else_none, first_kept}
-use Rattle.rules.specs.declared.Rule.TheVariants as rule
+use Rattle.rules.specs.declared.Rule.TheVariants.{Room}
 use Rattle.rules.specs.declared.Refusal.{Refusal}
 use Rattle.rules.specs.ListCalls.{make_refusal}
 use Rattle.rules.specs.Boxes.{full_range}
@@ -67,8 +67,8 @@ text_refused {room = room} {r = r} size read fits p =
     let form = read.form in
     let t = table_read form in
     let kept : table_refusal t ≡ none → room_refusal (length t) (length room) ≡ none
-    = λ e. ap (λ (b : Bool). refuse_unless b rule.Room (length t)) (le-leb (length t) (length room) (omega (arith, few_words t e))) in
-    let refusal = refused_some (read_refusal form (length room)) (length t) read.answer in
+    = λ e. ap (λ (b : Bool). refuse_unless b Room (length t)) (le-leb (length t) (length room) (omega (arith, few_words t e))) in
+    let refusal = refused_some (read_refusal form (length room)) (length t) r read.answer in
     let same = refused_before (form_refusal form) (table_refusal t) (room_refusal (length t) (length room)) _ kept refusal in
     (listed_as form same (omega (arith, refusal_most r)) p, omega (arith, p.end, refusal_most r))
 

@@ -8,8 +8,6 @@ ghost use Rattle.rules.specs.Listing.{ZoneListed};
 ghost use Rattle.number.specs.Writing.{Put};
 ghost use Rattle.pipe.specs.Tables.{table_listing};
 
-use rules::Written;
-
 // Makes a table's list for the full range, in a buffer of 8,192 words, and writes what is printed for it: a first line of at most 26 bytes, and
 // at most 42 for each of 4,092 products.
 fn list_table(table: &[i32], out: &mut [u8]) -> usize
@@ -17,10 +15,9 @@ fn list_table(table: &[i32], out: &mut [u8]) -> usize
     ensures { Put out.old 0 (table_listing table.now) out.new result }
 {
     let mut list: [u64; 8192] = [0; 8192];
-    let made = zone::make_list(table, window::everywhere(), &mut list);
-    match made {
-        Written::Refused(refusal) => print::put_refusal(out, refusal),
-        Written::Wrote(_) => print::put_list(out, &list),
+    match zone::make_list(table, window::everywhere(), &mut list) {
+        Err(refusal) => print::put_refusal(out, refusal),
+        Ok(_) => print::put_list(out, &list),
     }
 }
 
@@ -31,10 +28,9 @@ pub fn list_zone(text: &[u8], out: &mut [u8]) -> usize
     ensures upper_bound { result ≤ 171890 }
 {
     let mut table: [i32; 1524] = [0; 1524];
-    let read = zone::read_text(text, &mut table);
-    match read {
-        Written::Refused(refusal) => print::put_refusal(out, refusal),
-        Written::Wrote(words) => list_table(&table[..words], out),
+    match zone::read_text(text, &mut table) {
+        Err(refusal) => print::put_refusal(out, refusal),
+        Ok(words) => list_table(&table[..words], out),
     }
 }
 

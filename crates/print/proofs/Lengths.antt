@@ -4,6 +4,7 @@ use native.Mathlib.Omega.{arith}
 use mathlib.Core.List.{List, [], ◌∷◌, ◌++◌, flat_map}
 use lib.ListN.{length, length-append}
 use Rattle.ground.proofs.Pieces.{all_each, pieces_most}
+use Rattle.rules.specs.Rules.{number_of}
 use Rattle.rules.specs.declared.Product.{Product}
 use Rattle.rules.specs.declared.Refusal.{Refusal}
 use Rattle.rules.specs.Listing.{word_text, product_line, list_lines, refusal_line}
@@ -23,4 +24,4 @@ pub list_most : (ps : List Product) → length ps ≤ 4092 → length (list_line
 list_most ps few = simp length-append (omega (arith, few_digits 20 (length ps), lines_most ps))
 
 pub refusal_most : (r : Refusal) → length (refusal_line r) ≤ 50
-refusal_most r = simp length-append (omega (arith, few_digits 20 r.number, few_digits 20 r.value))
+refusal_most r = simp length-append (omega (arith, few_digits 20 (number_of r.rule), few_digits 20 r.value))

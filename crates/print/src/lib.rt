@@ -61,5 +61,5 @@ pub fn put_refusal(out: &mut [u8], r: Refusal) -> usize
     ensures { Put out.old 0 (refusal_line r) out.new result }
 {
     let named = number::put_bytes(out, 0, b"refused\t");
-    put_pair(out, named, r.number, r.value)
+    put_pair(out, named, r.rule.number(), r.value)
 }

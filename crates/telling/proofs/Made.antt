@@ -10,6 +10,7 @@ use lib.Dec.{leb}
 use lib.IntN.{ℤ}
 use lib.ListN.{length}
 use Rattle.ground.proofs.Counting.{first_kept}
+use Rattle.rules.specs.declared.Rule.TheVariants.{Room}
 use Rattle.rules.specs.declared.Window.{Window}
 use Rattle.rules.specs.Choices.{expansion}
 use Rattle.rules.specs.ListCalls.{window_refusal, choices_refusal, zone_list, make_refusal, ListMade}
@@ -37,5 +38,5 @@ module _ {t : List ℤ} {w : Window} {before after : List ℕ} {n : ℕ} (made :
   made_few size =
       let words = length (zone_list t w) in
       let room = (first_kept (choices_refusal (expansion (tree_of t))) _ (first_kept (window_refusal w) _ (first_kept (table_refusal t) _ fine).1).1).1 in
-      let fits = leb-true words (length before) (unless_kept (leb words (length before)) 8 words (first_kept (room_refusal words (length before)) [] room).0) in
+      let fits = leb-true words (length before) (unless_kept (leb words (length before)) Room words (first_kept (room_refusal words (length before)) [] room).0) in
       omega (arith, fits, size, made_once.number, list_length w (length (primitives t)) (products w (primitives t) (tree_of t)))

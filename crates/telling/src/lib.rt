@@ -11,7 +11,7 @@ ghost use Rattle.promises.specs.EachOnce.{EachOnce};
 use fate::told;
 use fate::told::{End, Told};
 use lines::{answers, say};
-use rules::{Axis, Product, Refusal, Window, Written};
+use rules::{Axis, Product, Refusal, Window};
 use std::fmt;
 
 // The name of a primitive.
@@ -161,10 +161,9 @@ fn tell_table(rt: &impl Print, table: &[i32], window: Window)
     requires { Sound table.now }
 {
     let mut list: [u64; 131080] = [0; 131080];
-    let made = zone::make_list(table, window, &mut list);
-    match made {
-        Written::Refused(refusal) => say_refused(rt, refusal),
-        Written::Wrote(_) => {
+    match zone::make_list(table, window, &mut list) {
+        Err(refusal) => say_refused(rt, refusal),
+        Ok(_) => {
             tell_ways(rt, table, &list, window);
             say_list(rt, &list);
         }
@@ -174,10 +173,9 @@ fn tell_table(rt: &impl Print, table: &[i32], window: Window)
 // Tells the ways of the zone of a text and its list, or why there is none. The 127 rows of the table always suffice.
 pub fn tell_zone(rt: &impl Print, text: &[u8], window: Window) {
     let mut table: [i32; 1524] = [0; 1524];
-    let read = zone::read_text(text, &mut table);
-    match read {
-        Written::Refused(refusal) => say_refused(rt, refusal),
-        Written::Wrote(words) => tell_table(rt, &table[..words], window),
+    match zone::read_text(text, &mut table) {
+        Err(refusal) => say_refused(rt, refusal),
+        Ok(words) => tell_table(rt, &table[..words], window),
     }
 }
 
