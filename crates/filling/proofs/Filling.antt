@@ -15,6 +15,13 @@ use Rattle.filling.specs.Filling.{MasksOf, LeafMasks, LeavesTo, FullFrom, HolesF
 use Rattle.rows.proofs.Rows.{same_plan, same_sound, inner_by, plan_with, plan_without, plan_either, plan_both, blank_either, blank_both}
 use Rattle.rows.proofs.Changes.{row_here, row_there, links_kept}
 
+-- of a row with two parts nothing is said
+pub inner_leaf : (meets : List ℕ) (seen : ℕ) (kind : RowKind) → Inner kind → (number : ℕ) (masks : Masks) → LeafMasks meets seen kind number masks
+inner_leaf meets seen With i number masks = absurd i
+inner_leaf meets seen Without i number masks = absurd i
+inner_leaf meets seen Either i number masks = tt
+inner_leaf meets seen Both i number masks = tt
+
 module _ {rows : List PlanRow} {end : ℕ} (s : SoundLinks rows end) (x : ℕ) (l : x < end) (long : length rows ≡ 127) where
   in_range : x < length rows
   in_range = omega (arith, s.few)
@@ -110,14 +117,8 @@ module _ {rows : List PlanRow} {end : ℕ} (s : SoundLinks rows end) (x : ℕ) (
       put_leaves : (masks : Masks) (inner : Inner (kind_at rows x)) (y : ℕ) → y < end → LeafMasks meets seen (kind_at rows y) (left_at rows y) (masks_at (with_masks rows x masks) y)
       put_leaves masks inner y v = go (eqb y x) refl
         where
-          no_leaf : (kind : RowKind) → Inner kind → (n : ℕ) (m : Masks) → LeafMasks meets seen kind n m
-          no_leaf With i n m = absurd i
-          no_leaf Without i n m = absurd i
-          no_leaf Either i n m = tt
-          no_leaf Both i n m = tt
-
           go : (t : Bool) → eqb y x ≡ t → LeafMasks meets seen (kind_at rows y) (left_at rows y) (masks_at (with_masks rows x masks) y)
-          go true e = subst (λ (j : ℕ). LeafMasks meets seen (kind_at rows j) (left_at rows j) (masks_at (with_masks rows x masks) j)) (sym (eqb-true y x e)) (no_leaf (kind_at rows x) inner _ _)
+          go true e = subst (λ (j : ℕ). LeafMasks meets seen (kind_at rows j) (left_at rows j) (masks_at (with_masks rows x masks) j)) (sym (eqb-true y x e)) (inner_leaf meets seen (kind_at rows x) inner _ _)
           go false e = subst (λ (k : Masks). LeafMasks meets seen (kind_at rows y) (left_at rows y) k) (sym (row_there rows x _ y (eqb-false y x e)).1) (leaves y v)
 
       -- a leaf has its masks already

@@ -7,7 +7,6 @@ use Rattle.laws.specs.Plans.{Plan}
 use Rattle.laws.specs.Reach.{meetings}
 use Rattle.choice.specs.Steps.{plan_at}
 use Rattle.rows.specs.declared.RowKind.{RowKind}
-use Rattle.rows.specs.declared.RowKind.TheVariants.{With, Without, Either, Both}
 use Rattle.rows.specs.declared.Links.{Links}
 use Rattle.rows.specs.declared.Masks.{Masks}
 use Rattle.rows.specs.declared.Part.{Part}
@@ -17,6 +16,7 @@ use Rattle.rows.specs.Lines.{rows_of, line, coming_links, line_in, Stands}
 use Rattle.filling.specs.Filling.{LeafMasks}
 use Rattle.laying.specs.Laying.{Coming, plan_of, lines_of, Comes, all_rows, all_lines, Laying}
 use Rattle.rows.proofs.Changes.{row_here, row_there, masks_kept}
+use Rattle.filling.proofs.Filling.{inner_leaf}
 use Rattle.laying.proofs.Lines.{Pair, some_row}
 
 -- what is to come is read from x on
@@ -54,13 +54,6 @@ comes_in t whole rows end x (i ∷ cs) c = omega (arith, comes_in t whole rows e
 leaf_same : (meets : List ℕ) (seen : ℕ) {l k : Links} {m n : Masks} → k ≡ l → n ≡ m → LeafMasks meets seen l.kind l.left m → LeafMasks meets seen k.kind k.left n
 leaf_same meets seen {l} {k} {m} {n} e f h =
     subst (λ (j : Links). LeafMasks meets seen j.kind j.left n) (sym e) (subst (LeafMasks meets seen l.kind l.left) (sym f) h)
-
--- of a row with two parts nothing is said
-inner_leaf : (meets : List ℕ) (seen : ℕ) (kind : RowKind) → Inner kind → (number : ℕ) (masks : Masks) → LeafMasks meets seen kind number masks
-inner_leaf meets seen With i number masks = absurd i
-inner_leaf meets seen Without i number masks = absurd i
-inner_leaf meets seen Either i number masks = tt
-inner_leaf meets seen Both i number masks = tt
 
 module _ {t : List ℤ} {seen : ℕ} {rows : List PlanRow} {x : ℕ} (few : all_rows t ≤ 127) (L : Laying t seen rows x) (f : First t rows x) where
   abbrev p : Plan

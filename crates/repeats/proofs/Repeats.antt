@@ -1,6 +1,7 @@
 -- Where a row is blank or a choice of it is a repeat, by its kind and its parts. Assumes nothing.
 use Rattle.std.proofs.Common.{◌≡◌, ℕ, ◌+◌, ◌-◌, ◌<◌, Bool, true, false, ◌&&◌, ◌||◌, List, eqb, refl, sym, ap, ap₂, ◌∙◌, arith}
 use lib.Bits.{bit_and}
+use Rattle.std.proofs.Math.Bool.{or_comm}
 use Rattle.std.specs.Prelude.{if◌then◌else◌}
 use Rattle.laws.specs.Plans.{Plan, with_it, without, either, both, mask, blank}
 use Rattle.rows.specs.Masks.{risk}
@@ -10,12 +11,6 @@ use Rattle.rows.specs.declared.PlanRow.{PlanRow}
 use Rattle.rows.specs.Rows.{kind_at, left_at, below_at, risk_at, plan_in, Inner, Later, InRows}
 use Rattle.repeats.specs.Repeats.{clear, safe, stale}
 use Rattle.rows.proofs.Rows.{plan_with, plan_without, plan_either, plan_both, inner_by, blank_either, blank_both}
-
-or_flip : (a b : Bool) → (a || b) ≡ (b || a)
-or_flip true true = refl
-or_flip true false = refl
-or_flip false true = refl
-or_flip false false = refl
 
 module _ {rows : List PlanRow} {x : ℕ} (i : InRows rows x) where
   pub in_few : x < 127
@@ -98,4 +93,4 @@ module _ {rows : List PlanRow} {x : ℕ} (i : InRows rows x) where
           let v = plan_in rows (x + 1) in
           ap (λ (r : Plan). stale r P N R) p
           ∙ ap (λ (t : Bool). if◌then◌else◌ t false (stale u P N R || stale v P N R)) (unsafe _ p)
-          ∙ or_flip (stale u P N R) (stale v P N R)
+          ∙ or_comm (stale u P N R) (stale v P N R)

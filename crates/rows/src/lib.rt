@@ -68,6 +68,7 @@ pub struct Part {
 }
 
 impl Part {
+    // The part at a row of the table, on a side.
     pub fn new(row: usize, within: bool) -> Part
         ensures { result ≡ record { row = row; within = within } }
     {

@@ -3,7 +3,7 @@ ghost use Rattle.rows.specs.Rows.{SoundRows};
 
 use crate::PlanRow;
 
-// The rows of a plan: those before the end, and what lies behind is blank.
+// The rows of a plan: those before the end.
 #[derive(Clone, Copy)]
 pub struct PlanRows {
     pub rows: [PlanRow; 127],

@@ -5,8 +5,7 @@ use native.Mathlib.Omega.{arith}
 use mathlib.Core.Bool.{Bool, true, false, not, ◌&&◌}
 use mathlib.Core.List.{List, [], ◌∷◌, ◌++◌, flat_map, append_assoc, append-nil}
 use mathlib.Core.Path.{◌≡◌, refl, sym, ap, ap₂, subst, ◌∙◌}
-use borrow.Author.Tests.{eq-eqb, ne_eqb, eqb-false}
-use lib.Bits.{bit_and}
+use borrow.Author.Tests.{eqb-false}
 use lib.Dec.{eqb}
 use lib.ListN.{length, length-append}
 use lib.Pow.{pow_mono}
@@ -20,9 +19,8 @@ use Rattle.laws.proofs.Words.{words_length}
 use Rattle.rows.specs.declared.RowKind.{RowKind}
 use Rattle.rows.specs.declared.RowKind.TheVariants.{With, Without, Either, Both}
 use Rattle.rows.specs.declared.PlanRow.{PlanRow}
-use Rattle.rows.specs.Rows.{kind_at, left_at, plan_in, Inner, Later, SoundLinks}
+use Rattle.rows.specs.Rows.{kind_at, left_at, Inner, Later, SoundLinks}
 use Rattle.rows.proofs.Rows.{inner_by}
-use Rattle.repeats.specs.Repeats.{stale}
 use Rattle.places.specs.declared.Place.{Place}
 use Rattle.places.specs.Places.{right_of, onward_by, onward_of, aside_by, aside_of}
 use Rattle.walk.specs.Tracks.{open_at, end_of, walk_to, walk_at, Held, steps_left, Goes, Put}
@@ -34,28 +32,6 @@ both_true false b h = h
 not_false : (a : Bool) → not a ≡ true → a ≡ false
 not_false true h = sym h
 not_false false h = refl
-
--- ---- where the walk stops
-
-module _ (rows : List PlanRow) (at : Place) (end : ℕ) where
-  -- no product: not at the end, dead, or a repeat
-  pub end_not : (at.row ≡ end → ⊥) → end_of rows end at ≡ []
-  unfolding end_of
-  end_not h = rw (ne_eqb at.row end h)
-
-  module _ (h : at.row ≡ end) where
-    pub end_dead : (bit_and at.plain at.reach ≡ at.plain → ⊥) → end_of rows end at ≡ []
-    unfolding end_of
-    end_dead g = rw (eq-eqb at.row end h, ne_eqb (bit_and at.plain at.reach) at.plain g)
-
-    module _ (g : bit_and at.plain at.reach ≡ at.plain) {b : Bool} (e : b ≡ stale (plan_in rows 0) at.plain at.cuts at.reach) where
-      pub end_stale : b ≡ true → end_of rows end at ≡ []
-      unfolding end_of
-      end_stale y = rw (eq-eqb at.row end h, eq-eqb (bit_and at.plain at.reach) at.plain g, sym e ∙ y)
-
-      pub end_new : b ≡ false → end_of rows end at ≡ record { plain = at.plain; cuts = bit_and at.cuts at.reach } ∷ []
-      unfolding end_of
-      end_new y = rw (eq-eqb at.row end h, eq-eqb (bit_and at.plain at.reach) at.plain g, sym e ∙ y)
 
 -- ---- steps
 
