@@ -110,7 +110,7 @@ fn highest(asked: Asked, table: &[i32], list: &[u64], entries: &[Entry], from: u
     left
 }
 
-// The highest place of from .. to - 1 that is inside, of a line through a point: one past it, or `from`. The entries are any: they are its own to fill.
+// The highest place of from .. to - 1 that is inside, of a line through a point: one past it, or `from`. It fills the entries anew.
 pub fn highest_inside(
     asked: Asked,
     table: &[i32],

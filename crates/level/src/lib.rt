@@ -8,7 +8,7 @@ ghost use Rattle.level.specs.Levels.{mark_at, Steady, Levels};
 
 use span::Stretch;
 
-// A stretch, and the mark of the one whose it is.
+// A stretch and its mark.
 #[derive(Clone, Copy, PartialEq, Eq, Debug)]
 pub struct Entry {
     pub mark: u64,
