@@ -23,8 +23,7 @@ use Rattle.rules.specs.Told.{Checked}
 use Rattle.rules.specs.ListFaults.{bounds_refusals, count_right, fits, plain_right, cuts_right, primitives_right, product_refusals, header_refusals}
 use Rattle.rules.specs.ListWords.{primitives_word, header_words, product_count, primitive_count, place_of, product_at}
 use Rattle.rules.specs.Refusals.{refuse_if, refuse_unless}
-use Rattle.laws.specs.Checking.{checked_by, first_refused}
-use Rattle.laws.proofs.Telling.{in_turn, alone, one_two}
+use Rattle.laws.specs.Checking.{checked_by}
 
 -- ---- tests
 

@@ -19,8 +19,8 @@ use Rattle.rules.specs.Table.{primitives}
 use Rattle.rules.specs.Told.{Located, Searched, Tale, Told, fine, refused, tell, told_located, told_searched}
 use Rattle.rules.specs.TreeCalls.{point_refusal, point_tale, search_tale}
 use Rattle.laws.proofs.Telling.{point_told, told_now, told_later, told_fine}
-use Rattle.frame.specs.declared.Tally.{Tally}
-use Rattle.frame.specs.Tallies.{seen, Tallied}
+use Rattle.frame.proofs.Tallies.{tally_told}
+use Rattle.frame.specs.Tallies.{Tally, seen, Tallied}
 use Rattle.says.specs.Checks.{Accepted}
 
 -- ---- table and list together
@@ -78,8 +78,8 @@ module _ (t : List ℤ) (list : List ℕ) where
         search_leaves k = record { answer = framed (told_now leaves [] tale k) }
 
         pub search_fine : leaves ≡ none → {n : Tally} → Tallied (sample_inside is_inside samples place) (length samples) n
-            → (r : Searched) → told_searched r ≡ fine (search_tale (seen n) n.count) → ListSearched t list samples place r
+            → ListSearched t list samples place (Ok n)
         unfolding first_inside inside_count
-        search_fine k n r e = record {
-          answer = e ∙ (λ i. fine (search_tale (n.first i) (n.count i))) ∙ framed (told_later leaves [] tale k (told_fine tale));
+        search_fine k {n} tallied = record {
+          answer = tally_told n ∙ (λ i. fine (search_tale (tallied.first i) (tallied.count i))) ∙ framed (told_later leaves [] tale k (told_fine tale));
         }

@@ -53,7 +53,7 @@ fn search_in(
     ensures { ListSearched table.now list.now samples.now place result }
 {
     check_leaves(layout::window_of(list), samples, place)?;
-    Ok(frame::answer(sweep::scan(Asked::List, table, list, samples, place)))
+    Ok(sweep::scan(Asked::List, table, list, samples, place))
 }
 
 // Table and list are accepted: the frame, then its samples.

@@ -1,4 +1,4 @@
-// Where samples stand: the check of a frame, the point of a sample, and the tally of a search.
+// Where samples stand: the check of a frame, the point of a sample, and what a search has found so far.
 
 #![tactic(auto)]
 
@@ -6,19 +6,10 @@ ghost use Rattle.std.specs.Prelude.{◌≤◌, ◌<◌, true, ◌≡◌, length}
 ghost use Rattle.std.proofs.Math.Option.{none};
 ghost use Rattle.rules.specs.Boxes.{holds, everywhere};
 ghost use Rattle.rules.specs.Frame.{most_samples, code_at, point_of, frame_refusal};
-ghost use Rattle.rules.specs.Told.{fine, told_searched};
-ghost use Rattle.rules.specs.TreeCalls.{search_tale};
 ghost use Rattle.laws.specs.Checking.{checked_by};
-ghost use Rattle.frame.specs.Tallies.{columns_right, seen, stepped};
+ghost use Rattle.frame.specs.Tallies.{columns_right, seen_count, stepped};
 
 use rules::{Axis, Hit, Place, Point, Refusal, Rule};
-
-// The first inside sample so far, and how many there are.
-#[derive(Clone, Copy)]
-pub struct Tally {
-    pub first: usize,
-    pub count: usize,
-}
 
 // Every column from `first` on is in range.
 fn columns_right(first: i32, samples: usize) -> bool
@@ -55,32 +46,19 @@ pub fn point_at(samples: &[i16], place: Place, k: usize) -> Point
     }
 }
 
-// The tally with sample k.
-pub fn counted(t: Tally, k: usize, hit: bool) -> Tally
-    requires { t.count ≤ most_samples }
-    ensures { result ≡ stepped t k hit }
+// The first inside sample and how many there are, with sample k.
+pub fn counted(found: Option<Hit>, k: usize, inside: bool) -> Option<Hit>
+    requires { seen_count found ≤ most_samples }
+    ensures { result ≡ stepped found k inside }
 {
-    if !hit {
-        return t;
+    if !inside {
+        return found;
     }
-    if t.count == 0 {
-        return Tally { first: k, count: 1 };
+    match found {
+        Some(hit) => Some(Hit {
+            count: hit.count + 1,
+            ..hit
+        }),
+        None => Some(Hit { first: k, count: 1 }),
     }
-    Tally {
-        count: t.count + 1,
-        ..t
-    }
-}
-
-// The first inside sample and how many there are, if there is one.
-pub fn answer(t: Tally) -> Option<Hit>
-    ensures { told_searched (Ok result) ≡ fine (search_tale (seen t) t.count) }
-{
-    if t.count == 0 {
-        return None;
-    }
-    Some(Hit {
-        first: t.first,
-        count: t.count,
-    })
 }

@@ -15,7 +15,7 @@ use Rattle.rules.specs.Boxes.{Box, holds}
 use Rattle.rules.specs.Refusals.{refuse_unless}
 use Rattle.rules.specs.Told.{Checked, Tale, Told, sound, fine, refused, tell, told_checked, told_located}
 use Rattle.rules.specs.TreeCalls.{point_refusal, point_tale}
-use Rattle.laws.specs.Checking.{checked_by, first_refused}
+use Rattle.laws.specs.Checking.{checked_by}
 use Rattle.laws.proofs.Soundness.{unless_kept}
 
 -- what a check that went on, or stopped, found
@@ -37,25 +37,10 @@ pub point_told : (b : Bool) → told_located (Ok b) ≡ fine (point_tale b)
 point_told true = refl
 point_told false = refl
 
--- ---- checks one after the other
-
-refused_first : (x y : Option Refusal) → first_refused (checked_by x) (checked_by y) ≡ checked_by (or_else x y)
-refused_first none y = refl
-refused_first (some r) y = refl
-
--- two checks by their rules
-pub in_turn : (xs ys : List (Option Refusal)) {a b r : Checked} → a ≡ checked_by (first_of xs) → b ≡ checked_by (first_of ys) → r ≡ first_refused a b
-    → r ≡ checked_by (first_of (xs ++ ys))
-in_turn xs ys ha hb h = h ∙ ap₂ first_refused ha hb ∙ refused_first (first_of xs) (first_of ys) ∙ ap checked_by (sym (first_append xs ys))
-
 -- a check by one rule
 pub alone : (x : Option Refusal) {a : Checked} → a ≡ checked_by x → a ≡ checked_by (first_of (x ∷ []))
 unfolding first_of
 alone x h = h ∙ ap checked_by (or_else_none x)
-
--- and two such
-pub one_two : (x y : Option Refusal) {a b r : Checked} → a ≡ checked_by x → b ≡ checked_by y → r ≡ first_refused a b → r ≡ checked_by (first_of (x ∷ y ∷ []))
-one_two x y ha hb h = in_turn (x ∷ []) (y ∷ []) (alone x ha) (alone y hb) h
 
 -- ---- an answer by the first rule that is broken
 

@@ -16,8 +16,7 @@ ghost use Rattle.says.specs.Asking.{inside_by, Ready};
 ghost use Rattle.sweep.specs.Sweeps.{fill_places, Known, telling, with_hit};
 
 use along::Entries;
-use frame::Tally;
-use rules::{Place, Point};
+use rules::{Hit, Place, Point};
 use says::Asked;
 use span::{Line, Stretch};
 
@@ -174,8 +173,8 @@ fn look(
     with_hit(n, hit)
 }
 
-// The inside samples of a frame.
-pub fn scan(asked: Asked, table: &[i32], list: &[u64], samples: &[i16], place: Place) -> Tally
+// The first inside sample of a frame and how many there are, if there is one.
+pub fn scan(asked: Asked, table: &[i32], list: &[u64], samples: &[i16], place: Place) -> Option<Hit>
     requires ready { Ready asked table.now list.now }
     requires place_value { frame_refusal samples.now place ≡ none }
     ensures { Tallied (sample_inside (inside_by asked table.now list.now) samples.now place) (length samples.now) result }
@@ -190,12 +189,12 @@ pub fn scan(asked: Asked, table: &[i32], list: &[u64], samples: &[i16], place: P
         inside: false,
         hit: false,
     };
-    let mut t = Tally { first: 0, count: 0 };
+    let mut found: Option<Hit> = None;
     for k in 0..samples.len() {
         let p = frame::point_at(samples, place, k);
         q = look(asked, table, list, p, before, q, &mut entries);
-        t = frame::counted(t, k, q.hit);
+        found = frame::counted(found, k, q.hit);
         before = code_place(samples, place, k);
     }
-    t
+    found
 }

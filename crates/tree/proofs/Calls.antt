@@ -17,8 +17,8 @@ use Rattle.rules.specs.Frame.{frame_refusal, sample_inside, first_inside, inside
 use Rattle.rules.specs.Told.{Located, Searched, Tale, fine, told_located, told_searched}
 use Rattle.rules.specs.TreeCalls.{point_refusal, point_tale, search_tale, TreeLocated, TreeSearched}
 use Rattle.laws.proofs.Telling.{point_told, told_now, told_later, told_fine}
-use Rattle.frame.specs.declared.Tally.{Tally}
-use Rattle.frame.specs.Tallies.{seen, Tallied}
+use Rattle.frame.proofs.Tallies.{tally_told}
+use Rattle.frame.specs.Tallies.{Tally, seen, Tallied}
 
 module _ (t : List ℤ) (p : Point) where
   abbrev answer : Tale
@@ -49,9 +49,9 @@ module _ (t samples : List ℤ) (place : Place) where
     search_frame k = record { answer = told_later (table_refusal t) (frame_refusal samples place ∷ []) tale h (told_now (frame_refusal samples place) [] tale k) }
 
     pub search_fine : frame_refusal samples place ≡ none → {n : Tally} → Tallied (sample_inside (inside (tree_of t)) samples place) (length samples) n
-        → (r : Searched) → told_searched r ≡ fine (search_tale (seen n) n.count) → TreeSearched t samples place r
+        → TreeSearched t samples place (Ok n)
     unfolding first_inside inside_count
-    search_fine k n r e = record {
-      answer = e ∙ (λ i. fine (search_tale (n.first i) (n.count i)))
+    search_fine k {n} tallied = record {
+      answer = tally_told n ∙ (λ i. fine (search_tale (tallied.first i) (tallied.count i)))
           ∙ told_later (table_refusal t) (frame_refusal samples place ∷ []) tale h (told_later (frame_refusal samples place) [] tale k (told_fine tale));
     }

@@ -34,7 +34,7 @@ fn sound_search(table: &[i32], samples: &[i16], place: Place) -> Result<Option<H
 {
     frame::check_frame(samples, place)?;
     let no_list: [u64; 1] = [0; 1];
-    Ok(frame::answer(sweep::scan(Asked::Tree, table, &no_list, samples, place)))
+    Ok(sweep::scan(Asked::Tree, table, &no_list, samples, place))
 }
 
 pub fn tree_search(table: &[i32], samples: &[i16], place: Place) -> Result<Option<Hit>, Refusal>

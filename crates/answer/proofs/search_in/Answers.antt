@@ -1,4 +1,3 @@
-use Rattle.std.specs.Prelude.{Ok}
 use mathlib.Core.List.{List}
 use mathlib.Core.Path.{◌≡◌, ap, ◌∙◌}
 use lib.IntN.{ℤ}
@@ -36,4 +35,4 @@ returns-in_err-check_leaves c =
 pub returns : goal.returns
 returns c =
     search_fine c.args.table.now c.args.list.now c.args.samples.now c.args.place c.requires.accepted c.requires.place_value
-    (went_on _ (placed c.window_of.ensures c.args.samples.now c.args.place c.in_ok-check_leaves.ensures)) c.scan.ensures (Ok c.answer.result) c.answer.ensures
+    (went_on _ (placed c.window_of.ensures c.args.samples.now c.args.place c.in_ok-check_leaves.ensures)) c.scan.ensures

@@ -40,8 +40,8 @@ returns-in_err-refuse_unless c =
 
 pub returns : goal.returns
 returns c =
-    let l = if_kept _ _ _ (went_on _ c.in_ok-refuse_if.ensures) in
     let f : SFits w32 c.args.place.frame = search rules in
+    let l = if_kept _ _ _ (went_on _ c.in_ok-refuse_if.ensures) in
     first_kept_on _ _ c.in_ok-refuse_if.ensures
     (first_kept_on _ _ (all_columns c.args.samples.now c.args.place (search rules) l c.columns_right.ensures c.in_ok-refuse_unless.ensures)
     (alone _ (c.refuse_unless-2.ensures ∙ rw (c.contains.ensures, to_z-of_z w32 c.args.place.frame f))))

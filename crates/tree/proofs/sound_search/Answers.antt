@@ -1,4 +1,3 @@
-use Rattle.std.specs.Prelude.{Ok}
 use Rattle.rules.specs.TreeCalls.{TreeSearched}
 use Rattle.laws.proofs.Soundness.{table_sound}
 use Rattle.laws.proofs.Telling.{went_on, stopped}
@@ -16,5 +15,4 @@ returns-in_err-check_frame c =
 
 pub returns : goal.returns
 returns c =
-    search_fine c.args.table.now c.args.samples.now c.args.place c.requires (went_on _ c.in_ok-check_frame.ensures) c.scan.ensures (Ok c.answer.result)
-    c.answer.ensures
+    search_fine c.args.table.now c.args.samples.now c.args.place c.requires (went_on _ c.in_ok-check_frame.ensures) c.scan.ensures
