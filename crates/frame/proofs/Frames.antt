@@ -1,19 +1,17 @@
 -- What the check of a frame comes to, rule by rule; and what a column holds. Assumes nothing.
 use Prim.Native.Nat.{◌≤◌}
 use native.Mathlib.Omega.{arith}
-use mathlib.Core.Bool.{Bool, true, false, ◌||◌}
+use mathlib.Core.Bool.{Bool, false, ◌||◌}
 use mathlib.Core.List.{List}
-use mathlib.Core.Option.{none}
 use mathlib.Core.Path.{◌≡◌}
 use borrow.Author.Tests.{eqb-false, ltb-false}
 use lib.Dec.{eqb, ltb}
 use lib.IntN.{ℤ}
 use lib.ListN.{length}
-use Rattle.ground.specs.Lists.{below, all_of, first_of}
+use Rattle.ground.specs.Lists.{below, all_of}
 use Rattle.rules.specs.declared.Place.{Place}
-use Rattle.rules.specs.Ranges.{within, columns, frames}
-use Rattle.rules.specs.Frame.{most_samples, column, frame_refusal}
-use Rattle.rules.specs.Refusals.{refuse}
+use Rattle.rules.specs.Ranges.{within, columns}
+use Rattle.rules.specs.Frame.{most_samples, column}
 use Rattle.laws.proofs.Columns.{ends_are_all}
 use Rattle.laws.proofs.Soundness.{or_false}
 use Rattle.frame.specs.Tallies.{columns_right}

@@ -1,12 +1,12 @@
 -- What an answer tells of the rule behind it. Assumes nothing.
 use Rattle.std.specs.Prelude.{Ok, Err}
 use mathlib.Core.Bool.{Bool, true, false, ◌&&◌}
-use mathlib.Core.List.{List, [], ◌∷◌, ◌++◌}
+use mathlib.Core.List.{List, [], ◌∷◌}
 use mathlib.Core.Option.{Option, none, some}
-use mathlib.Core.Path.{◌≡◌, refl, sym, ap, ap₂, ◌∙◌}
-use Rattle.ground.specs.Lists.{or_else, first_of}
+use mathlib.Core.Path.{◌≡◌, refl, ap, ◌∙◌}
+use Rattle.ground.specs.Lists.{first_of}
 use Rattle.ground.proofs.Branches.{and_left, and_right}
-use Rattle.ground.proofs.Counting.{or_else_none, first_kept, first_append}
+use Rattle.ground.proofs.Counting.{or_else_none, first_kept}
 use Rattle.rules.specs.declared.Rule.TheVariants as rule
 use Rattle.rules.specs.declared.Point.{Point}
 use Rattle.rules.specs.declared.Refusal.{Refusal}

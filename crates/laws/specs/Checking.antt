@@ -8,3 +8,8 @@ use Rattle.rules.specs.Told.{Checked}
 abbrev pub checked_by : Option Refusal → Checked
 checked_by none = Ok tt
 checked_by (some r) = Err r
+
+-- the first of two checks that refuses
+abbrev pub first_refused : Checked → Checked → Checked
+first_refused (Err r) b = Err r
+first_refused (Ok u) b = b

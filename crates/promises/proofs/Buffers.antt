@@ -18,7 +18,7 @@ use Rattle.rules.specs.ListWords.{word}
 use Rattle.rules.specs.Outcome.{leave}
 use Rattle.rules.specs.Products.{products}
 use Rattle.rules.specs.Table.{primitives}
-use Rattle.rules.specs.Told.{Written, wrote, refused, tell, told_written, refused_by}
+use Rattle.rules.specs.Told.{Written, wrote, tell, told_written, refused_by}
 use Rattle.rules.specs.Tree.{tree_of}
 use Rattle.rules.specs.Verdict.{table_refusal}
 use Rattle.rules.proofs.Settled.{over_rest}

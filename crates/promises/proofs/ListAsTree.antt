@@ -36,7 +36,7 @@ use Rattle.rules.specs.ListWords.{list_window}
 use Rattle.rules.specs.Ranges.{Span, within, columns, codes, frames}
 use Rattle.rules.specs.Refusals.{refuse, refuse_unless}
 use Rattle.rules.specs.Table.{primitives}
-use Rattle.rules.specs.Told.{Located, Searched, refused, tell, told_located, refused_by}
+use Rattle.rules.specs.Told.{Located, Searched, tell, told_located, refused_by}
 use Rattle.rules.specs.Tree.{tree_of}
 use Rattle.rules.specs.TreeCalls.{axis_refusal, point_refusal, point_tale, search_tale, tree_point_refusal, TreeLocated, tree_search_refusal, TreeSearched}
 use Rattle.rules.specs.Verdict.{table_refusal}

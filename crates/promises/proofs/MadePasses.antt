@@ -12,7 +12,7 @@ use lib.Dec.{ltb}
 use lib.IntN.{ℤ}
 use lib.ListN.{length, get_or}
 use lib.Pow.{pow_pos}
-use Rattle.ground.specs.Lists.{All, from, below, or_else, first_of}
+use Rattle.ground.specs.Lists.{All, below, or_else, first_of}
 use Rattle.ground.proofs.Counting.{numbers_below}
 use Rattle.ground.proofs.Lists.{all_flat_map}
 use Rattle.ground.proofs.Masks.{has, Within, within_self, within_left, within_has, has_within, has_both, both_has, and_assoc, and_or, or_and}

@@ -1,48 +1,33 @@
 -- Whatever meets the record of a call tells what is possible: its refusals have numbers of the table, and its hits a count. Assumes nothing.
-use Prim.Native.Nat.{ℕ, suc, ◌-◌, ◌≤◌}
+use Prim.Native.Nat.{ℕ, suc, ◌≤◌}
 use native.Mathlib.Omega.{arith}
-use mathlib.Core.Bool.{Bool, true, false, ◌&&◌}
-use mathlib.Core.List.{List, [], ◌∷◌, flat_map}
+use mathlib.Core.Bool.{Bool, true, false}
+use mathlib.Core.List.{List, [], ◌∷◌}
 use mathlib.Core.Option.{Option, none, some}
 use mathlib.Core.Path.{◌≡◌, refl, sym, subst}
-use borrow.Author.Tests.{leb-true}
-use lib.Dec.{leb}
 use lib.IntN.{ℤ}
 use lib.ListN.{length}
-use Rattle.ground.specs.Lists.{All, below, count_if, find_if, first_of}
+use Rattle.ground.specs.Lists.{below, count_if, find_if}
 use Rattle.std.specs.Prelude.{if◌then◌else◌}
-use Rattle.ground.proofs.Branches.{and_left, and_right}
-use Rattle.ground.proofs.Lists.{all_append, all_flat_map}
-use Rattle.ground.proofs.Pieces.{all_each}
-use Rattle.rules.specs.declared.Rule.{Rule}
-use Rattle.rules.specs.declared.Rule.TheVariants as rule
-use Rattle.rules.specs.Rules.{number_of}
-use Rattle.rules.specs.declared.Kind.{Kind}
 use Rattle.rules.specs.declared.Place.{Place}
 use Rattle.rules.specs.declared.Point.{Point}
 use Rattle.rules.specs.declared.Rectangle.{Rectangle}
 use Rattle.rules.specs.declared.Refusal.{Refusal}
 use Rattle.rules.specs.declared.Window.{Window}
-use Rattle.rules.specs.Boxes.{Box, holds}
-use Rattle.rules.specs.Frame.{code_at, point_of, frame_refusal, leaves_refusal, sample_inside, first_inside, inside_count}
+use Rattle.rules.specs.Frame.{sample_inside, first_inside, inside_count}
 use Rattle.rules.specs.Inside.{inside}
-use Rattle.rules.specs.ListCalls.{window_refusal, make_refusal, ListMade, accept_refusal, list_point_refusal, ListLocated, list_search_refusal, ListSearched, screen_refusal, ScreenSearched}
+use Rattle.rules.specs.ListCalls.{make_refusal, ListMade, list_point_refusal, ListLocated, list_search_refusal, ListSearched, screen_refusal, ScreenSearched}
 use Rattle.rules.specs.ListCalls.{waterfall_refusal, PictureDrawn}
-use Rattle.rules.specs.ListFaults.{header_refusals, product_refusals, list_refusal}
 use Rattle.rules.specs.ListInside.{inside_list}
-use Rattle.rules.specs.ListWords.{product_count}
-use Rattle.rules.specs.Refusals.{refuse, refuse_if, refuse_unless}
 use Rattle.rules.specs.RewriteCall.{rewrite_refusal, TreeRewritten}
-use Rattle.rules.specs.Table.{primitives, row_count, kind_at, word_at}
-use Rattle.rules.specs.TextCalls.{form_refusal, read_refusal, TextRead, write_refusal, TextWritten}
-use Rattle.rules.specs.TextForm.{TextForm, too_long, faulty, spelt}
+use Rattle.rules.specs.Table.{primitives}
+use Rattle.rules.specs.TextCalls.{read_refusal, TextRead, write_refusal, TextWritten}
 use Rattle.rules.specs.Told.{Checked, Located, Searched, Written, Tale, Told, sound, fine, tell, told_checked, told_located, told_searched, told_written}
 use Rattle.rules.specs.Tree.{tree_of}
-use Rattle.rules.specs.TreeCalls.{point_refusal, point_tale, search_tale, TableChecked, tree_point_refusal, TreeLocated, tree_search_refusal, TreeSearched}
-use Rattle.rules.specs.Waterfall.{rectangle_refusal}
-use Rattle.rules.specs.Verdict.{row_refusal_by, row_refusal, rows_refusal, child_once, child_refusal, table_refusal}
+use Rattle.rules.specs.TreeCalls.{point_tale, search_tale, TableChecked, tree_point_refusal, TreeLocated, tree_search_refusal, TreeSearched}
+use Rattle.rules.specs.Verdict.{table_refusal}
 use Rattle.rules.proofs.Told.{number_bounds}
-use Rattle.promises.specs.Possible.{last_refusal, InTable, Possible}
+use Rattle.promises.specs.Possible.{Possible}
 
 -- ---- a refusal tells the number of its rule, which is one of the table; any other answer is possible where nothing is refused
 

@@ -1,6 +1,6 @@
 -- Zone text and tables go back and forth through the calls: a sound table's text is read as that table, and an accepted text is written as it was.
 -- Assumes nothing.
-use Prim.Native.Nat.{ℕ, ◌-◌, ◌≤◌}
+use Prim.Native.Nat.{ℕ, ◌≤◌}
 use native.Mathlib.Omega.{arith}
 use mathlib.Core.List.{List}
 use mathlib.Core.Option.{Option, none}

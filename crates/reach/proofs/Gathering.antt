@@ -7,7 +7,7 @@ use mathlib.Core.Option.{some}
 use mathlib.Core.Path.{◌≡◌, sym, ap, subst, ◌∙◌}
 use lib.Bits.{bit_or}
 use lib.IntN.{ℤ}
-use lib.ListN.{length, set, length-append}
+use lib.ListN.{length, length-append}
 use lib.Seq.{take_all, take-append_seam, get_or-append_seam}
 use Rattle.ground.specs.Bits.{places_of}
 use Rattle.std.specs.Prelude.{if◌then◌else◌}

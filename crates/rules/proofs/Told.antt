@@ -2,7 +2,7 @@
 -- Assumes nothing.
 use Rattle.std.specs.Prelude.{Ok, Err, None, true, false}
 use Prim.Native.Nat.{ℕ, ◌≤◌}
-use Rattle.std.specs.Prelude.{true, false, Ok, Err, Some, None, eqb, if◌then◌else◌}
+use Rattle.std.specs.Prelude.{true, false, Ok, Err, Some, None}
 use native.Mathlib.Omega.{arith}
 use mathlib.Core.List.{List, ◌∷◌, head-eq_of_cons-eq, tail-eq_of_cons-eq}
 use mathlib.Core.Option.{Option, none, some}

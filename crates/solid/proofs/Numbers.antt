@@ -15,9 +15,9 @@ use Rattle.rules.specs.declared.DrumShape.{DrumShape}
 use Rattle.rules.specs.declared.Point.{Point}
 use Rattle.rules.specs.declared.WedgeShape.{WedgeShape}
 use Rattle.rules.specs.Boxes.{holds, everywhere}
-use Rattle.rules.specs.Fields.{wedge_right, drum_right, corner_right}
+use Rattle.rules.specs.Fields.{radii, wedge_right, drum_right, corner_right}
 use Rattle.rules.specs.Inside.{square}
-use Rattle.rules.specs.Ranges.{within}
+use Rattle.rules.specs.Ranges.{within, columns}
 use Rattle.laws.proofs.Ranges.{x_in, y_in, z_in, a_in, b_in, c_in, cx_in, cy_in, rx_in, ry_in, corner_x_in, corner_y_in}
 use Rattle.laws.proofs.Spans.{even_span, upper_span}
 
@@ -88,32 +88,16 @@ module _ (d : DrumShape) (h : drum_right d ≡ true) where
   pub ry_num : Narrow d.ry 4097
   ry_num = upper 4096 (ry_in d h) tt
 
-  pub cx_wide : Wide d.cx 32768
-  cx_wide = cast_num cx_num tt
+-- what an ellipse's inequality is made of: how far a point is from its centre on an axis, and the square of a radius
+pub apart_wide : (v o : ℤ) → within columns v ≡ true → within columns o ≡ true
+    → Num w64 (of_z w64 (to_z w64 (wide_bits v) -ℤ to_z w64 (wide_bits o))) (v -ℤ o) 65536
+apart_wide v o h k =
+    let here : Wide v 32768 = cast_num (even 32767 h tt) tt in
+    let there : Wide o 32768 = cast_num (even 32767 k tt) tt in
+    sub_num here there tt
 
-  pub cy_wide : Wide d.cy 32768
-  cy_wide = cast_num cy_num tt
-
-  pub rx_wide : Wide d.rx 4097
-  rx_wide = cast_num rx_num tt
-
-  pub ry_wide : Wide d.ry 4097
-  ry_wide = cast_num ry_num tt
-
--- what an ellipse's inequality is made of: how far a point is from its centre on each axis, and the squares of its radii
-module _ (d : DrumShape) (p : Point) (right : drum_right d ≡ true) (range : holds everywhere p ≡ true) where
-  pub dx_wide : Num w64 (of_z w64 (to_z w64 (wide_bits p.x) -ℤ to_z w64 (wide_bits d.cx))) (p.x -ℤ d.cx) 65536
-  dx_wide = sub_num (x_wide p range) (cx_wide d right) tt
-
-  pub dy_wide : Num w64 (of_z w64 (to_z w64 (wide_bits p.y) -ℤ to_z w64 (wide_bits d.cy))) (p.y -ℤ d.cy) 65536
-  dy_wide = sub_num (y_wide p range) (cy_wide d right) tt
-
-module _ (d : DrumShape) (right : drum_right d ≡ true) where
-  pub rx_square : Num w64 (of_z w64 (to_z w64 (wide_bits d.rx) *ℤ to_z w64 (wide_bits d.rx))) (square d.rx) 16785409
-  rx_square = mul_num (rx_wide d right) (rx_wide d right) tt
-
-  pub ry_square : Num w64 (of_z w64 (to_z w64 (wide_bits d.ry) *ℤ to_z w64 (wide_bits d.ry))) (square d.ry) 16785409
-  ry_square = mul_num (ry_wide d right) (ry_wide d right) tt
+pub radius_square : (r : ℤ) → within radii r ≡ true → Num w64 (of_z w64 (to_z w64 (wide_bits r) *ℤ to_z w64 (wide_bits r))) (square r) 16785409
+radius_square r h = let wide : Wide r 4097 = cast_num (upper 4096 h tt) tt in mul_num wide wide tt
 
 module _ (c : Corner) (h : corner_right c ≡ true) where
   pub corner_x : Narrow c.x 32768

@@ -86,8 +86,9 @@ fn half_space(w: WedgeShape, p: Point) -> bool
 
 // ry²(x - cx)² + rx²(y - cy)² - rx²ry²: above 0 out of the ellipse.
 pub fn past_ellipse(d: DrumShape, p: Point) -> i64
-    requires d_value { drum_right d ≡ true }
-    requires p_value { holds everywhere p ≡ true }
+    requires centre_value { (within columns d.cx ≡ true) × (within codes d.cy ≡ true) }
+    requires radii_value { (within radii d.rx ≡ true) × (within radii d.ry ≡ true) }
+    requires place_value { (within columns p.x ≡ true) × (within codes p.y ≡ true) }
     ensures value { result ≡ square d.ry *ℤ square (p.x -ℤ d.cx) +ℤ square d.rx *ℤ square (p.y -ℤ d.cy) -ℤ square d.rx *ℤ square d.ry }
     ensures bounded { nat_abs result ≤ 1000000000000000000 }
 {
@@ -99,8 +100,9 @@ pub fn past_ellipse(d: DrumShape, p: Point) -> i64
 }
 
 pub fn in_ellipse(d: DrumShape, p: Point) -> bool
-    requires d_value { drum_right d ≡ true }
-    requires p_value { holds everywhere p ≡ true }
+    requires centre_value { (within columns d.cx ≡ true) × (within codes d.cy ≡ true) }
+    requires radii_value { (within radii d.rx ≡ true) × (within radii d.ry ≡ true) }
+    requires place_value { (within columns p.x ≡ true) × (within codes p.y ≡ true) }
     ensures { result ≡ in_ellipse d.cx d.cy d.rx d.ry p.x p.y }
 {
     past_ellipse(d, p) <= 0
@@ -145,7 +147,7 @@ fn one_sided(u: i64, v: i64, w: i64) -> bool
 // On no edge's wrong side.
 pub fn in_corners(t: TriangleShape, p: Point) -> bool
     requires t_value { corners_right t ≡ true }
-    requires p_value { holds everywhere p ≡ true }
+    requires place_value { (within columns p.x ≡ true) × (within codes p.y ≡ true) }
     ensures { result ≡ one_sided (side t.first t.second p.x p.y) (side t.second t.third p.x p.y) (side t.third t.first p.x p.y) }
 {
     let a = t.first;

@@ -1,7 +1,6 @@
 -- The k-th way, by recursion on the row: k falls to one part of an `either`, and k's two digits to the parts of a `both`. Assumes nothing.
-use native.Mathlib.Omega.{arith}
 use mathlib.Core.Path.{◌∙◌}
-use Rattle.choice.proofs.Parts.{left_fits, right_fits, kth_left, kth_right, left_ways, low_fits, high_fits, kth_both, kth_in, kth_out}
+use Rattle.choice.proofs.Parts.{right_fits, kth_left, kth_right, left_ways, low_fits, high_fits, kth_both, kth_in, kth_out}
 use Rattle.choice.proofs.Steps.{as_step, asks}
 use Rattle.choice.proofs.+choose.Goals as goal
 

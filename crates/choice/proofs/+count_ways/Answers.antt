@@ -4,7 +4,7 @@ use native.Mathlib.Omega.{arith}
 use mathlib.Core.Path.{sym, ap}
 use lib.ListN.{get_or}
 use Rattle.laws.specs.Plans.{count}
-use Rattle.choice.proofs.Steps.{as_step, known_right, asks, stored, count_either, count_both, count_fits_word}
+use Rattle.choice.proofs.Steps.{as_step, known_right, stored, count_either, count_both, count_fits_word}
 use Rattle.choice.proofs.+count_ways.Goals as goal
 
 pub slot-at-requires : goal.slot-at-requires

@@ -1,4 +1,3 @@
-use Rattle.table.proofs.Rows.{row_there}
 use Rattle.choice.proofs.Steps.{solid_in, solid_out, union_in, union_out, inter_in, inter_out, diff_in, diff_out}
 use Rattle.choice.proofs.read_step.Goals as goal
 

@@ -11,7 +11,7 @@ use Rattle.ground.specs.Lists.{all_of, below}
 use Rattle.rules.specs.declared.Place.{Place}
 use Rattle.rules.specs.declared.Rule.TheVariants as rule
 use Rattle.rules.specs.Frame.{column}
-use Rattle.rules.specs.Ranges.{within, columns, frames}
+use Rattle.rules.specs.Ranges.{within, columns}
 use Rattle.rules.specs.Refusals.{refuse_unless}
 use Rattle.rules.specs.Told.{Checked}
 use Rattle.laws.proofs.Soundness.{if_kept}

@@ -8,7 +8,6 @@ use mir.Val.{to_z, of_z}
 use mir.ValLaws.{to_z-of_z}
 use Rattle.ground.proofs.Num.{Num, widens, wide, unsigned, add_fits, add_num}
 use Rattle.frame.proofs.columns_right.Lts as lts
-use Rattle.frame.proofs.columns_right.Tie as tie
 use Rattle.frame.proofs.columns_right.Reads as reads
 use Rattle.frame.proofs.columns_right.Goals as goal
 

@@ -29,6 +29,16 @@ bend_weight-requires-2 c =
       centre_value = (rw (cy_num d h).reads (cy_in d h), rw (y_num p k).reads (y_in p k));
     }
 
+pub past_ellipse-requires : goal.past_ellipse-requires
+past_ellipse-requires c =
+    let d = c.args.d in
+    let h = c.requires.d_value in
+    record {
+      centre_value = (cx_in d h, cy_in d h);
+      radii_value = (rx_in d h, ry_in d h);
+      place_value = (x_in c.args.p c.requires.p_value, y_in c.args.p c.requires.p_value);
+    }
+
 pub returns-clause-slack : goal.returns-clause-slack
 returns-clause-slack c =
     let d = c.args.d in

@@ -1,4 +1,3 @@
-use Prim.Native.Nat.{◌≤◌, ◌-◌}
 use Rattle.rules.specs.Inside.{bounds}
 use Rattle.rules.specs.Table.{primitives_before}
 use Rattle.reach.specs.Gathering.{Gathers, meeting}

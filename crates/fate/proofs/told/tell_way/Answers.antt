@@ -4,8 +4,7 @@ use mathlib.Core.List.{List}
 use mathlib.Core.Path.{◌≡◌, sym, ap, ◌∙◌}
 use Prim.Native.Nat.{ℕ}
 use lib.IntN.{ℤ}
-use Rattle.std.specs.Prelude.{Ok, Err}
-use Rattle.rules.specs.declared.Axis.{Axis}
+use Rattle.std.specs.Prelude.{Ok}
 use Rattle.rules.specs.declared.Product.{Product}
 use Rattle.rules.specs.declared.Window.{Window}
 use Rattle.rules.specs.Table.{primitives}
