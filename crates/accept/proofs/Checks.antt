@@ -3,24 +3,19 @@ use Prim.Native.Nat.{ℕ, suc, ◌+◌, ◌-◌, ◌*◌, ◌/◌, ◌%◌, ◌^
 use native.Mathlib.Nat.{pow-suc}
 use native.Mathlib.Omega.{arith}
 use mathlib.Core.Bool.{Bool, true, false, not, ◌&&◌, ◌||◌, not-not}
-use mathlib.Core.List.{List, [], ◌∷◌, ◌++◌}
-use mathlib.Core.Option.{Option}
+use mathlib.Core.List.{List}
 use mathlib.Core.Path.{◌≡◌, refl, sym, ap, ap₂, ◌∙◌}
 use borrow.Author.Tests.{leb-true, leb-false, le-ltb, lt-ltb}
 use lib.Bits.{bit_and}
 use lib.Dec.{eqb, leb, ltb, leb-suc-suc}
 use lib.ListN.{length}
 use lib.Pow.{pow_mono}
-use Rattle.ground.specs.Lists.{first_of}
 use Rattle.ground.proofs.Masks.{one_shifted}
 use Rattle.ground.proofs.Order.{leb_same}
-use Rattle.rules.specs.declared.Axis.TheVariants.{Column, Code, Frame}
 use Rattle.rules.specs.declared.Product.{Product}
-use Rattle.rules.specs.declared.Refusal.{Refusal}
 use Rattle.rules.specs.declared.Rule.{Rule}
 use Rattle.rules.specs.declared.Rule.TheVariants as rule
-use Rattle.rules.specs.Told.{Checked}
-use Rattle.rules.specs.ListFaults.{bounds_refusals, count_right, fits, plain_right, cuts_right, primitives_right, product_refusals, header_refusals}
+use Rattle.rules.specs.ListFaults.{count_right, fits, plain_right, cuts_right, primitives_right}
 use Rattle.rules.specs.ListWords.{primitives_word, header_words, product_count, primitive_count, place_of, product_at}
 use Rattle.rules.specs.Refusals.{refuse_if, refuse_unless}
 use Rattle.laws.specs.Checking.{checked_by}

@@ -1,10 +1,10 @@
 -- What the calls over a list answer, from the rules that were kept or broken on the way. Assumes nothing.
 use Rattle.std.specs.Prelude.{Ok, Err}
 use Prim.Native.Nat.{ℕ}
-use mathlib.Core.Bool.{Bool, true, false}
+use mathlib.Core.Bool.{Bool}
 use mathlib.Core.List.{List, [], ◌∷◌}
 use mathlib.Core.Option.{Option, none, some}
-use mathlib.Core.Path.{◌≡◌, sym, ap, ◌∙◌}
+use mathlib.Core.Path.{◌≡◌, ap, ◌∙◌}
 use lib.IntN.{ℤ}
 use lib.ListN.{length}
 use Rattle.ground.specs.Lists.{first_of}
@@ -16,11 +16,11 @@ use Rattle.rules.specs.ListCalls.{accept_refusal, ListLocated, ListSearched}
 use Rattle.rules.specs.ListInside.{inside_list}
 use Rattle.rules.specs.ListWords.{list_window}
 use Rattle.rules.specs.Table.{primitives}
-use Rattle.rules.specs.Told.{Located, Searched, Tale, Told, fine, refused, tell, told_located, told_searched}
+use Rattle.rules.specs.Told.{Tale, Told, fine, refused, tell}
 use Rattle.rules.specs.TreeCalls.{point_refusal, point_tale, search_tale}
 use Rattle.laws.proofs.Telling.{point_told, told_now, told_later, told_fine}
 use Rattle.frame.proofs.Tallies.{tally_told}
-use Rattle.frame.specs.Tallies.{Tally, seen, Tallied}
+use Rattle.frame.specs.Tallies.{Tally, Tallied}
 use Rattle.says.specs.Checks.{Accepted}
 
 -- ---- table and list together

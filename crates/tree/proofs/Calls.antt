@@ -1,9 +1,9 @@
 -- What the calls over the tree answer, from the rules that were kept or broken on the way. Assumes nothing.
 use Rattle.std.specs.Prelude.{Ok, Err}
-use mathlib.Core.Bool.{Bool, true, false}
+use mathlib.Core.Bool.{Bool}
 use mathlib.Core.List.{List, [], ◌∷◌}
 use mathlib.Core.Option.{none, some}
-use mathlib.Core.Path.{◌≡◌, sym, ap, ◌∙◌}
+use mathlib.Core.Path.{◌≡◌, ap, ◌∙◌}
 use lib.IntN.{ℤ}
 use lib.ListN.{length}
 use Rattle.rules.specs.declared.Place.{Place}
@@ -14,11 +14,11 @@ use Rattle.rules.specs.Verdict.{table_refusal}
 use Rattle.rules.specs.Tree.{tree_of}
 use Rattle.rules.specs.Inside.{inside}
 use Rattle.rules.specs.Frame.{frame_refusal, sample_inside, first_inside, inside_count}
-use Rattle.rules.specs.Told.{Located, Searched, Tale, fine, told_located, told_searched}
+use Rattle.rules.specs.Told.{Tale, fine}
 use Rattle.rules.specs.TreeCalls.{point_refusal, point_tale, search_tale, TreeLocated, TreeSearched}
 use Rattle.laws.proofs.Telling.{point_told, told_now, told_later, told_fine}
 use Rattle.frame.proofs.Tallies.{tally_told}
-use Rattle.frame.specs.Tallies.{Tally, seen, Tallied}
+use Rattle.frame.specs.Tallies.{Tally, Tallied}
 
 module _ (t : List ℤ) (p : Point) where
   abbrev answer : Tale

@@ -1,4 +1,3 @@
-use Prim.Native.Nat.{◌≤◌, ◌-◌}
 use Rattle.rules.specs.Table.{primitives_before}
 use Rattle.holding.specs.Holding.{Holding}
 use Rattle.holding.proofs.hold_at.Given as goal

@@ -3,7 +3,6 @@ use native.Mathlib.Nat.{div-one}
 use native.Mathlib.Omega.{arith}
 use mathlib.Core.Bool.{Bool, not, ◌&&◌, ◌||◌}
 use mathlib.Core.Path.{◌≡◌, refl, sym, ap, ap₂}
-use borrow.Author.Rules.{rules}
 use Rattle.ground.specs.Bits.{odd}
 use Rattle.rules.specs.declared.Row.{Row}
 use Rattle.laws.specs.Held.{tree_says}

@@ -1,4 +1,3 @@
-use native.Mathlib.Omega.{arith}
 use mathlib.Core.Path.{refl, sym, ap, ◌∙◌}
 use Rattle.ground.proofs.Counting.{any_yes, any_no, any_done, rest_all}
 use Rattle.ground.specs.Lists.{any_of}

@@ -1,4 +1,3 @@
-use Prim.Native.Nat.{◌≤◌, ◌-◌}
 use Rattle.says.specs.Saids.{Said}
 use Rattle.says.proofs.tree_says.Given as goal
 

@@ -1,7 +1,5 @@
 use native.Mathlib.Omega.{arith}
 use mathlib.Core.Path.{sym, ap, ◌∙◌}
-use Rattle.rules.specs.Refusals.{room_refusal}
-use Rattle.rules.specs.Screen.{frames_refusal, triple_words}
 use Rattle.ground.specs.Lists.{first_of}
 use Rattle.laws.specs.Checking.{checked_by}
 use Rattle.laws.proofs.Telling.{alone}

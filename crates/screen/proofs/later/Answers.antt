@@ -12,7 +12,6 @@ use Rattle.rules.specs.Ranges.{within, greatest, frames}
 use Rattle.screen.specs.Places.{same, beyond}
 use Rattle.screen.proofs.Places.{past, sum_fits}
 use Rattle.screen.proofs.later.Lts as lts
-use Rattle.screen.proofs.later.Tie as tie
 use Rattle.screen.proofs.later.Reads as reads
 use Rattle.screen.proofs.later.Goals as goal
 

@@ -1,13 +1,13 @@
 use Prim.Native.Nat.{ℕ, ◌*◌}
 use native.Mathlib.Omega.{arith}
-use mathlib.Core.List.{List, flat_map}
+use mathlib.Core.List.{flat_map}
 use mathlib.Core.Path.{◌≡◌, refl, sym, ap, subst, ◌∙◌}
 use lib.ListN.{length}
 use lib.Seq.{sets, length-sets}
 use Rattle.ground.specs.Lists.{from}
 use Rattle.rules.specs.Screen.{frame_at, later, triple_words, triple_of}
 use Rattle.screen.specs.Triples.{Small}
-use Rattle.screen.proofs.Frames.{FramesRight, frames_right, frame_fits, triples_to, triples_all, one_more}
+use Rattle.screen.proofs.Frames.{frames_right, frame_fits, triples_to, triples_all, one_more}
 use Rattle.screen.proofs.Triples.{search_small}
 use Rattle.screen.proofs.put_triples.Goals as goal
 
