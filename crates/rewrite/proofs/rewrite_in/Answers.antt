@@ -27,6 +27,8 @@ returns-then-ways-gt-MOST_WAYS c =
 pub rewrite_for-requires : goal.rewrite_for-requires
 rewrite_for-requires c = record {
   table_value = c.requires;
-  table_len_bound = (omega (arith, c.number_rows-primitives.ensures.0, c.if-primitives-gt-MOST_REWRITTEN.false),
-    omega (arith, c.ways_of-ways.ensures, expansion_ways c.args.table.now, c.if-ways-gt-MOST_WAYS.false));
+  table_len_bound = (
+    omega (arith, c.number_rows-primitives.ensures.0, c.if-primitives-gt-MOST_REWRITTEN.false),
+    omega (arith, c.ways_of-ways.ensures, expansion_ways c.args.table.now, c.if-ways-gt-MOST_WAYS.false),
+  );
 }
