@@ -1,6 +1,7 @@
 use lib.IntN.{ℤ, pos}
 use lib.ListN.{length-replicate}
-use Rattle.pipe.proofs.Read.{read_fits, text_refused, text_listed}
+use Rattle.laws.proofs.Texts.{read_fits}
+use Rattle.pipe.proofs.Read.{text_refused, text_listed}
 use Rattle.pipe.proofs.list_zone.Goals as goal
 
 pub slice_bounds-table-end : goal.slice_bounds-table-end
