@@ -34,10 +34,12 @@ use comparing::Axes;
 use lines::rows::Rows;
 use lines::{Fault, Line, say, say_bytes};
 
-// What the lines have set so far: a zone, and of each other line what follows its word.
+// What the lines have set so far: a zone, with what its own line says after the word until the next line is read, and of each other line what follows its
+// word.
 #[derive(Clone, Copy, Default)]
 struct Held<'a> {
     zone: Option<Rows>,
+    begun: &'a [u8],
     list: &'a [u8],
     frame: &'a [u8],
     window: &'a [u8],
@@ -62,6 +64,13 @@ fn add_row(held: &mut Held<'_>, line: Line<'_>) -> Result<(), Fault> {
     }
 }
 
+// What follows the word `zone` may hold a row, after a tab: it is read with the line after it.
+fn begin(held: &mut Held<'_>) -> Result<(), Fault> {
+    let begun = Line::read(held.begun);
+    held.begun = b"";
+    add_row(held, begun)
+}
+
 // Asks what a line asks, after its name, and ends the line.
 fn ask(rt: &impl Print, held: &Held<'_>, line: Line<'_>) -> Result<(), Fault> {
     say_bytes(rt, line.name);
@@ -72,10 +81,16 @@ fn ask(rt: &impl Print, held: &Held<'_>, line: Line<'_>) -> Result<(), Fault> {
 
 // Does what a line says: it sets something, or asks.
 fn obey<'a>(rt: &impl Print, held: &mut Held<'a>, line: Line<'a>) -> Result<(), Fault> {
+    if line.word != b"zone".as_slice() {
+        begin(held)?;
+    }
     match line.word {
         b"" => {}
         b"row" | b"words" | b"again" => add_row(held, line)?,
-        b"zone" => held.zone = Some(Rows::new()),
+        b"zone" => {
+            held.zone = Some(Rows::new());
+            held.begun = line.rest;
+        }
         b"list" => held.list = line.rest,
         b"frame" => held.frame = line.rest,
         b"window" => held.window = line.rest,
