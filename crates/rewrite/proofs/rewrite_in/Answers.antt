@@ -14,7 +14,7 @@ number_rows-primitives-requires c = record { sound = table_sound c.args.table.no
 pub returns-then-primitives-gt-MOST_REWRITTEN : goal.returns-then-primitives-gt-MOST_REWRITTEN
 returns-then-primitives-gt-MOST_REWRITTEN c =
     rw c.new.ensures
-    (by_primitives c.args.table.now c.args.tree.now c.args.work.now c.requires c.number_rows-primitives.ensures.0 c.if-primitives-gt-MOST_REWRITTEN.true)
+    (by_primitives c.args.table.now c.args.tree.now c.args.work.now c.requires c.number_rows-primitives.ensures.0 (omega (arith, c.if-primitives-gt-MOST_REWRITTEN.true)))
 
 pub ways_of-ways-requires : goal.ways_of-ways-requires
 ways_of-ways-requires c = (table_sound c.args.table.now c.requires, c.number_rows-primitives.ensures.1)
