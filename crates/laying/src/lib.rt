@@ -9,7 +9,7 @@ ghost use Rattle.sizing.specs.Sizes.{Given, SizedTo};
 ghost use Rattle.laying.specs.Laying.{all_rows, Laying, Laid};
 
 use choice::Step;
-use rows::{Part, PlanRow, PlanRows, RowKind};
+use rows::{Part, PlanRow, RowKind};
 
 // Lays out the row that is to come at a place: its own links, and its parts as rows that are to come; of a leaf the masks too.
 fn lay_row(
@@ -49,10 +49,10 @@ fn lay_row(
     }
 }
 
-// The rows of a zone's plan, for the primitives that share a point with the window.
-pub fn lay(table: &[i32], bits: &[u64; 127], seen: u64) -> PlanRows
+// The rows of a zone's plan, for the primitives that share a point with the window; how many there are.
+pub fn lay(table: &[i32], bits: &[u64; 127], seen: u64, rows: &mut [PlanRow; 127]) -> usize
     requires { Given table.now bits.now }
-    ensures { Laid table.now seen result.rows result.end }
+    ensures { Laid table.now seen rows.new result }
 {
     let sizes = sizing::sizes_of(table, bits);
     let root = Part {
@@ -60,11 +60,10 @@ pub fn lay(table: &[i32], bits: &[u64; 127], seen: u64) -> PlanRows
         within: true,
     };
     let end = usize::from(sizes[root.row]);
-    let mut rows: [PlanRow; 127] = [rows::BLANK; 127];
     rows[0].links = root.links(sizes[root.row], None);
     for at in 0..end {
-        lay_row(table, bits, &sizes, seen, &mut rows, at);
+        lay_row(table, bits, &sizes, seen, rows, at);
     }
-    filling::fill(&mut rows, end);
-    PlanRows { rows, end }
+    filling::fill(rows, end);
+    end
 }

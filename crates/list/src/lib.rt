@@ -19,8 +19,8 @@ use rules::{Refusal, Rule, Window};
 
 // Words that are enough: room for every way where that is there, so that one walk does; else exactly what the products take.
 fn measure(list: &mut [u64], plan: &PlanRows, seen: u64, ways: u64) -> usize
-    requires { (length (walk_at plan.now.rows plan.now.end (start_of seen)) ≤ ways) × (ways ≤ most_choices) }
-    ensures { Measured (place_of (length (walk_at plan.now.rows plan.now.end (start_of seen)))) (length list.old) result × (list.new ≡ list.old) }
+    requires { (length (walk_at plan.now.rows.now plan.now.end (start_of seen)) ≤ ways) × (ways ≤ most_choices) }
+    ensures { Measured (place_of (length (walk_at plan.now.rows.now plan.now.end (start_of seen)))) (length list.old) result × (list.new ≡ list.old) }
 {
     let most = layout::place_of(ways as usize);
     if most <= list.len() {
@@ -44,7 +44,9 @@ fn make_of(
     ensures { ListMade table.now w list.old list.new result }
 {
     let seen = reach::seen_in(table, w);
-    let plan = laying::lay(table, bits, seen);
+    let mut rows = [rows::BLANK; 127];
+    let end = laying::lay(table, bits, seen, &mut rows);
+    let plan = PlanRows { rows: &rows, end };
     let needed = measure(list, &plan, seen, ways);
     if list.len() < needed {
         return Err(Refusal::new(Rule::Room, needed));

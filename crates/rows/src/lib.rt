@@ -9,7 +9,7 @@ mod plan;
 mod puts;
 
 pub use plan::PlanRows;
-pub use puts::{put_both, put_either, put_leaf};
+pub use puts::{put_both, put_either, put_leaf, put_pair};
 
 // What a row is: with a primitive, without one, either of two parts, or both.
 #[derive(Clone, Copy, PartialEq, Eq, Debug)]

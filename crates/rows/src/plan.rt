@@ -5,8 +5,8 @@ use crate::PlanRow;
 
 // The rows of a plan: those before the end.
 #[derive(Clone, Copy)]
-pub struct PlanRows {
-    pub rows: [PlanRow; 127],
+pub struct PlanRows<'a> {
+    pub rows: &'a [PlanRow; 127],
     pub end: usize,
-    pub ghost sound: { SoundRows rows end },
+    pub ghost sound: { SoundRows rows.now end },
 }

@@ -1,7 +1,7 @@
 // Rows put in their place: a leaf, or a row with two parts that are to come.
 ghost use Rattle.std.specs.Prelude.{ℕ, ◌+◌, ◌^◌, ◌<◌, ◌≡◌, set};
 ghost use Rattle.rows.specs.declared.RowKind.TheVariants.{Either, Both};
-ghost use Rattle.rows.specs.Rows.{next_at, done_at};
+ghost use Rattle.rows.specs.Rows.{links_at, next_at, done_at};
 ghost use Rattle.rows.specs.Lines.{line, with_pair};
 
 use crate::{Links, Masks, Part, PlanRow, RowKind};
@@ -14,7 +14,7 @@ fn number(bit: u64) -> u8
 }
 
 // The links of a row with two parts, and its left- and right-hand parts as rows that are to come.
-fn put_pair(
+pub fn put_pair(
     rows: &mut [PlanRow; 127],
     at: usize,
     own: Links,
@@ -64,7 +64,8 @@ pub fn put_both(rows: &mut [PlanRow; 127], at: usize, left: u8, lhs: Part, rhs: 
 // A leaf: what it is alone is known by the bit of its primitive.
 pub fn put_leaf(rows: &mut [PlanRow; 127], at: usize, kind: RowKind, bit: u64, span: u64)
     requires { at < 127 }
-    ensures { (i : ℕ) → i < 64 → bit ≡ 2 ^ i → rows.new ≡ set rows.old at (record { links = line kind i (next_at rows.old at) (done_at rows.old at); masks = record { below = bit; span = span; risk = 0 } }) }
+    ensures by_number { (i : ℕ) → i < 64 → bit ≡ 2 ^ i → rows.new ≡ set rows.old at (record { links = line kind i (next_at rows.old at) (done_at rows.old at); masks = record { below = bit; span = span; risk = 0 } }) }
+    ensures masks_after { rows.new ≡ set rows.old at (record { links = links_at rows.new at; masks = record { below = bit; span = span; risk = 0 } }) }
 {
     let links = Links {
         kind,

@@ -23,23 +23,23 @@ fn aged(rows: &[PlanRow; 127], at: Place) -> bool
 // The walk goes on from here: it is not at the end, what is chosen is in reach, and the part that is done holds no repeat.
 fn is_open(plan: &PlanRows, at: Place) -> bool
     requires { at.row ≤ plan.now.end }
-    ensures { result ≡ open_at plan.now.rows plan.now.end at }
+    ensures { result ≡ open_at plan.now.rows.now plan.now.end at }
 {
     at.row != plan.end
         && at.plain & (at.reach & plan.rows[at.row].masks.span) == at.plain
-        && !aged(&plan.rows, at)
+        && !aged(plan.rows, at)
 }
 
 // Goes on from a place as long as it can.
 fn run(plan: &PlanRows, aside: &mut Aside, from: Place) -> Place
     requires { Held plan.now.end (from ∷ aside.old) }
-    ensures goes { Goes plan.now.rows plan.now.end (from ∷ aside.old) (result ∷ aside.new) }
-    ensures stops { open_at plan.now.rows plan.now.end result ≡ false }
+    ensures goes { Goes plan.now.rows.now plan.now.end (from ∷ aside.old) (result ∷ aside.new) }
+    ensures stops { open_at plan.now.rows.now plan.now.end result ≡ false }
 {
     let mut at = from;
     while is_open(plan, at) {
-        places::fork(&plan.rows, aside, at);
-        at = places::onward(&plan.rows, at);
+        places::fork(plan.rows, aside, at);
+        at = places::onward(plan.rows, at);
     }
     at
 }
@@ -47,12 +47,12 @@ fn run(plan: &PlanRows, aside: &mut Aside, from: Place) -> Place
 // The product where a walk stops, if there is one.
 #[tactic(auto, unfolding(crate::specs::Tracks::end_of))]
 fn product_at(plan: &PlanRows, at: Place) -> Option<Product>
-    ensures { MatchOption result (end_of plan.now.rows plan.now.end at ≡ []) (λ product. end_of plan.now.rows plan.now.end at ≡ product ∷ []) }
+    ensures { MatchOption result (end_of plan.now.rows.now plan.now.end at ≡ []) (λ product. end_of plan.now.rows.now plan.now.end at ≡ product ∷ []) }
 {
     if at.row != plan.end || at.plain & at.reach != at.plain {
         return None;
     }
-    if repeats::stale_at(&plan.rows, 0, at.plain, at.cuts, at.reach) {
+    if repeats::stale_at(plan.rows, 0, at.plain, at.cuts, at.reach) {
         return None;
     }
     Some(Product {
@@ -63,9 +63,9 @@ fn product_at(plan: &PlanRows, at: Place) -> Option<Product>
 
 // Counts the product where a walk stops, if there is one, and writes it after so many if products are to be kept.
 fn finish(plan: &PlanRows, at: Place, list: &mut [u64], count: usize, keeps: bool) -> usize
-    requires few { count + length (end_of plan.now.rows plan.now.end at) ≤ most_choices }
-    requires room { keeps ≡ true → place_of (count + length (end_of plan.now.rows plan.now.end at)) ≤ length list.old }
-    ensures { Put keeps list.old list.new count result (end_of plan.now.rows plan.now.end at) }
+    requires few { count + length (end_of plan.now.rows.now plan.now.end at) ≤ most_choices }
+    requires room { keeps ≡ true → place_of (count + length (end_of plan.now.rows.now plan.now.end at)) ≤ length list.old }
+    ensures { Put keeps list.old list.new count result (end_of plan.now.rows.now plan.now.end at) }
 {
     let Some(product) = product_at(plan, at) else {
         return count;
@@ -78,9 +78,9 @@ fn finish(plan: &PlanRows, at: Place, list: &mut [u64], count: usize, keeps: boo
 
 // All products of the rows, in order: how many there are, and if they are to be kept they are written after the header.
 pub fn walk(plan: &PlanRows, seen: u64, list: &mut [u64], keeps: bool) -> usize
-    requires few { length (walk_at plan.now.rows plan.now.end (start_of seen)) ≤ most_choices }
-    requires room { keeps ≡ true → place_of (length (walk_at plan.now.rows plan.now.end (start_of seen))) ≤ length list.old }
-    ensures { Put keeps list.old list.new 0 result (walk_at plan.now.rows plan.now.end (start_of seen)) }
+    requires few { length (walk_at plan.now.rows.now plan.now.end (start_of seen)) ≤ most_choices }
+    requires room { keeps ≡ true → place_of (length (walk_at plan.now.rows.now plan.now.end (start_of seen))) ≤ length list.old }
+    ensures { Put keeps list.old list.new 0 result (walk_at plan.now.rows.now plan.now.end (start_of seen)) }
 {
     let mut aside = Aside::new();
     aside.push(Place {

@@ -64,12 +64,12 @@ put_both-requires-clause-parts_bound c =
 pub returns-in-With : goal.returns-in-With
 returns-in-With c =
     let N = c.in-With.ensures in
-    laid_with c.requires.given.0 c.requires.laying.0 c.requires.laying.1 c.part-part.ensures _ _ N.2 N.1 c.sharing_row.ensures c.put_leaf.ensures
+    laid_with c.requires.given.0 c.requires.laying.0 c.requires.laying.1 c.part-part.ensures _ _ N.2 N.1 c.sharing_row.ensures c.put_leaf.ensures.by_number
 
 pub returns-in-Without : goal.returns-in-Without
 returns-in-Without c =
     let N = c.in-Without.ensures in
-    laid_without c.requires.given.0 c.requires.laying.0 c.requires.laying.1 c.part-part.ensures _ _ N.2 N.1 c.put_leaf-in-Without.ensures
+    laid_without c.requires.given.0 c.requires.laying.0 c.requires.laying.1 c.part-part.ensures _ _ N.2 N.1 c.put_leaf-in-Without.ensures.by_number
 
 pub returns-in-Either : goal.returns-in-Either
 returns-in-Either c =

@@ -35,18 +35,21 @@ words_same t w e = ap (λ (ps : List Product). place_of (length ps)) e ∙ sym (
 pub seen_in-seen-requires : goal.seen_in-seen-requires
 seen_in-seen-requires c = table_sound c.args.table.now c.requires.table_value.0
 
-pub lay-plan-requires : goal.lay-plan-requires
-lay-plan-requires c = record { sound = table_sound c.args.table.now c.requires.table_value.0; numbered = c.requires.numbered.0 }
+pub lay-end-requires : goal.lay-end-requires
+lay-end-requires c = record { sound = table_sound c.args.table.now c.requires.table_value.0; numbered = c.requires.numbered.0 }
+
+pub invariant_of-plan : goal.invariant_of-plan
+invariant_of-plan c = record { sound = c.lay-end.ensures.sound }
 
 pub measure-needed-requires : goal.measure-needed-requires
-measure-needed-requires c = (walked_few c.lay-plan.ensures c.requires.ways_value.0, c.requires.ways_value.1)
+measure-needed-requires c = (walked_few c.lay-end.ensures c.requires.ways_value.0, c.requires.ways_value.1)
 
 pub returns-then-list-needed : goal.returns-then-list-needed
 returns-then-list-needed c =
     let t = c.args.table.now in
     let w = c.args.w in
     let same = c.measure-needed.ensures.1 in
-    let same_products = walked_products c.lay-plan.ensures w (table_sound t c.requires.table_value.0) c.requires.table_value.1 c.seen_in-seen.ensures in
+    let same_products = walked_products c.lay-end.ensures w (table_sound t c.requires.table_value.0) c.requires.table_value.1 c.seen_in-seen.ensures in
     let short : length c.args.list.now < c.measure-needed.result = omega (arith, c.if-list-needed.true, ap length same) in
     rw c.new.ensures (subst (λ (l : List ℕ). ListMade t w c.args.list.now l (Err (record { rule = Room; value = c.measure-needed.result }))) (sym same)
     (made_room t w c.args.list.now c.requires.table_value.0 c.requires.table_value.1 (not_many t c.requires.ways_value.0 c.requires.ways_value.1) (c.measure-needed.ensures.0.exact short ∙ words_same t w same_products) short))
@@ -54,7 +57,7 @@ returns-then-list-needed c =
 pub walk-n-requires : goal.walk-n-requires
 walk-n-requires c =
     let same = ap length c.measure-needed.ensures.1 in record {
-      few = omega (arith, walked_few c.lay-plan.ensures c.requires.ways_value.0, c.requires.ways_value.1);
+      few = omega (arith, walked_few c.lay-end.ensures c.requires.ways_value.0, c.requires.ways_value.1);
       room = λ k. omega (arith, c.measure-needed.ensures.0.enough (omega (arith, c.if-list-needed.false, same)), same);
     }
 
@@ -66,15 +69,15 @@ write_header-requires c =
     }
 
 pub place_of-requires : goal.place_of-requires
-place_of-requires c = omega (arith, c.walk-n.ensures.count, walked_few c.lay-plan.ensures c.requires.ways_value.0, c.requires.ways_value.1)
+place_of-requires c = omega (arith, c.walk-n.ensures.count, walked_few c.lay-end.ensures c.requires.ways_value.0, c.requires.ways_value.1)
 
 pub returns : goal.returns
 returns c =
     let t = c.args.table.now in
     let w = c.args.w in
     let before = c.args.list.now in
-    let all = walked c.lay-plan.ensures in
-    let same_products = walked_products c.lay-plan.ensures w (table_sound t c.requires.table_value.0) c.requires.table_value.1 c.seen_in-seen.ensures in
+    let all = walked c.lay-end.ensures in
+    let same_products = walked_products c.lay-end.ensures w (table_sound t c.requires.table_value.0) c.requires.table_value.1 c.seen_in-seen.ensures in
     let room : place_of (length all) ≤ length before = c.measure-needed.ensures.0.enough (omega (arith, c.if-list-needed.false, ap length c.measure-needed.ensures.1)) in
     let n : c.walk-n.result ≡ length all = omega (arith, c.walk-n.ensures.count) in
     let now = c.walk-n.ensures.words ∙ ap (λ (l : List ℕ). sets l header_words (flat_map words_of all)) c.measure-needed.ensures.1 in

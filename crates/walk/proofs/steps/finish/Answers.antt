@@ -12,6 +12,6 @@ pub returns : goal.returns
 returns c =
     elim c.if-keeps.branch [
       | then-keeps w ↦ put_one c.args.count c.in-Some.product c.in-Some.ensures (w.list-is ∙ w.put_product.ensures) w.if-keeps.true
-      | else-keeps w ↦ subst (λ (l : List ℕ). Put c.args.keeps c.args.list.now l c.args.count (c.args.count + 1) (end_of c.args.plan.now.rows c.args.plan.now.end c.args.at)) (sym w.list-is)
+      | else-keeps w ↦ subst (λ (l : List ℕ). Put c.args.keeps c.args.list.now l c.args.count (c.args.count + 1) (end_of c.args.plan.now.rows.now c.args.plan.now.end c.args.at)) (sym w.list-is)
           (count_one c.args.list.now c.args.count c.in-Some.ensures w.if-keeps.false)
     ]

@@ -36,4 +36,4 @@ loop-aside-preserved c =
     let l = c.loop-aside in
     let on = goes_on s l.at l.aside l.invariant.held (sym c.is_open.ensures ∙ c.loop-aside-test.true) in
     let to = ap₂ (λ (p : Place) (ps : List Place). p ∷ ps) (sym c.onward-at.ensures) (sym c.fork.ensures) in
-    goes_then l.invariant (subst (Goes c.args.plan.now.rows c.args.plan.now.end (l.at ∷ l.aside)) to on)
+    goes_then l.invariant (subst (Goes c.args.plan.now.rows.now c.args.plan.now.end (l.at ∷ l.aside)) to on)

@@ -10,8 +10,8 @@ pub loop-from-init : goal.loop-from-init
 loop-from-init c =
     let start = start_of c.args.seen in
     let e = c.push.ensures ∙ ap (λ (aside : List Place). start ∷ aside) c.new-aside.ensures in
-    subst (λ (aside : List Place). Walked c.args.plan.now.rows c.args.plan.now.end (walk_at c.args.plan.now.rows c.args.plan.now.end start) c.args.keeps c.args.list.now c.args.list.now aside 0) (sym e)
-    (walked_none c.args.plan.now.rows c.args.plan.now.end start c.args.keeps c.args.list.now (omega arith))
+    subst (λ (aside : List Place). Walked c.args.plan.now.rows.now c.args.plan.now.end (walk_at c.args.plan.now.rows.now c.args.plan.now.end start) c.args.keeps c.args.list.now c.args.list.now aside 0) (sym e)
+    (walked_none c.args.plan.now.rows.now c.args.plan.now.end start c.args.keeps c.args.list.now (omega arith))
 
 pub finish-count-requires-clause-few : goal.finish-count-requires-clause-few
 finish-count-requires-clause-few c =
