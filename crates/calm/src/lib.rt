@@ -84,9 +84,10 @@ pub fn narrow_by(s: Primitive, p: Point, r: Rect) -> Rect
     ensures { NarrowedBy s p r result }
 {
     let b = solid::box_of(s);
+    // before the frame is asked for, so that a kind's box and margin are worked out in one go
+    let e = edges_of(b, margin::margin(s, p));
     if !solid::frames(b).contains(p.z) {
         return r;
     }
-    let e = edges_of(b, margin::margin(s, p));
     narrow(e, span::place_of(p.x), span::place_of(p.y), r)
 }

@@ -53,5 +53,5 @@ returns c =
     let y = c.place_of-2.ensures.value ∙ ap (raised Frame) (y_num p h).reads in
     let is = c.contains.ensures ∙ (λ i. within (record { lo = (c.frames.ensures i).lo; hi = (c.frames.ensures i).hi }) ((z_num p h).reads i)) in
     let N = rw (c.edges_of-e.ensures, x, y) at c.narrow.ensures in
-    let bounded = solid_bounded s c.requires.s_value b c.box_of-b.ensures p h c.margin.result c.margin.ensures.margin (sym is ∙ c.if-not-contains.false) in
-    record { here = N.here; part = N.part; same = N.same (λ a b'. inside_solid s (spot p.z a b')) bounded }
+    let bounded = solid_bounded s c.requires.s_value b c.box_of-b.ensures p h c.margin.result c.margin.ensures.margin in
+    record { here = N.here; part = N.part; same = N.same (λ a b'. inside_solid s (spot p.z a b')) (bounded.on (sym is ∙ c.if-not-contains.false)) }
