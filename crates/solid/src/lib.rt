@@ -113,11 +113,7 @@ fn in_wedge(w: WedgeShape, p: Point) -> bool
     requires p_value { holds everywhere p ≡ true }
     ensures { result ≡ inside_wedge w p }
 {
-    // returned early, so that who asks for the margin next does not ask for the box again
-    if !in_box(w.bounds, p) {
-        return false;
-    }
-    half_space(w, p)
+    in_box(w.bounds, p) && half_space(w, p)
 }
 
 fn in_drum(d: DrumShape, p: Point) -> bool
