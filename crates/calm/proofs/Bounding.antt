@@ -28,7 +28,7 @@ use Rattle.span.proofs.Order.{from_place, to_place}
 use Rattle.margin.specs.Margins.{spot, Margin}
 use Rattle.margin.proofs.Spots.{spot_here}
 use Rattle.calm.specs.declared.Edges.{Edges}
-use Rattle.calm.specs.Calms.{Ranged, Boxed, Bounded, edges_of}
+use Rattle.calm.specs.Calms.{Ranged, Boxed, BoundedIn, edges_of}
 
 -- ---- in range
 
@@ -117,7 +117,7 @@ module _ (s : Primitive) (right : solid_right s ≡ true) (b : BoxShape) (e : bo
     pub solid_off : within (bounds b).z p.z ≡ false → (a c : ℕ) → test a c ≡ false
     solid_off k a c = refuted (test a c) (λ t. false_true (sym k ∙ third (x a c t) (y a c t) (z a c t) (all_in a c t)))
 
-    module _ (m : ℕ) (M : Margin s p m) (framed : within (bounds b).z p.z ≡ true) where
+    module _ (m : ℕ) (M : Margin s p m) where
       abbrev edges : Edges
       edges = edges_of b m
 
@@ -127,9 +127,9 @@ module _ (s : Primitive) (right : solid_right s ≡ true) (b : BoxShape) (e : bo
       abbrev code : ℕ
       code = raised Frame p.y
 
-      -- between the edges is in the box
-      in_box : (a c : ℕ) → Boxed edges a c → holds (box_of s) (spot p.z a c) ≡ true
-      in_box a c B =
+      -- between the edges is in the box, where that has the frame
+      in_box : (a c : ℕ) → within (bounds b).z p.z ≡ true → Boxed edges a c → holds (box_of s) (spot p.z a c) ≡ true
+      in_box a c framed B =
           ap (λ (box : Box). holds box (spot p.z a c)) (sym e) ∙ boxed_is a c
           ∙ ap₂ ◌&&◌ (ap₂ ◌&&◌ (le-leb edges.columns.lo a B.left) (le-leb a edges.columns.hi B.right))
           (ap₂ ◌&&◌ (ap₂ ◌&&◌ (le-leb edges.codes.lo c B.under) (le-leb c edges.codes.hi B.over)) framed)
@@ -137,12 +137,15 @@ module _ (s : Primitive) (right : solid_right s ≡ true) (b : BoxShape) (e : bo
       own : inside_solid s p ≡ test column code
       own = ap (inside_solid s) (sym (spot_here p h))
 
-      pub solid_bounded : Bounded test edges column code
+      pub solid_bounded : BoundedIn (within (bounds b).z p.z) test edges column code
       solid_bounded = record {
-        left = λ a c l. refuted (test a c) (λ t. omega (arith, x_low a c t));
-        right = λ a c l. refuted (test a c) (λ t. omega (arith, x_high a c t));
-        under = λ a c l. refuted (test a c) (λ t. omega (arith, y_low a c t));
-        over = λ a c l. refuted (test a c) (λ t. omega (arith, y_high a c t));
-        near = λ a c here there close.
-            M.same a c close (subst (λ (q : Point). holds (box_of s) q ≡ true) (spot_here p h) (in_box column code here)) (in_box a c there) ∙ own;
+        off = solid_off;
+        on = λ framed. record {
+          left = λ a c l. refuted (test a c) (λ t. omega (arith, x_low a c t));
+          right = λ a c l. refuted (test a c) (λ t. omega (arith, x_high a c t));
+          under = λ a c l. refuted (test a c) (λ t. omega (arith, y_low a c t));
+          over = λ a c l. refuted (test a c) (λ t. omega (arith, y_high a c t));
+          near = λ a c here there close.
+              M.same a c close (subst (λ (q : Point). holds (box_of s) q ≡ true) (spot_here p h) (in_box column code framed here)) (in_box a c framed there) ∙ own;
+        };
       }

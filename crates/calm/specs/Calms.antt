@@ -27,6 +27,11 @@ pub record Bounded (test : ℕ → ℕ → Bool) (e : Edges) (x v : ℕ) : Type 
   pub over : (a b : ℕ) → e.codes.hi < b → test a b ≡ false
   pub near : (a b : ℕ) → Boxed e x v → Boxed e a b → Close e.margin x v a b → test a b ≡ test x v
 
+-- a primitive's test in a frame: it holds nowhere if its box has not the frame, and else the edges bound it
+pub record BoundedIn (framed : Bool) (test : ℕ → ℕ → Bool) (e : Edges) (x v : ℕ) : Type 0 where
+  pub off : framed ≡ false → (a b : ℕ) → test a b ≡ false
+  pub on : framed ≡ true → Bounded test e x v
+
 -- a place of the rectangle, whose columns begin with the point's own
 pub record In (a b : ℕ) (r : Rect) : Type 0 where
   pub on : a ≤ r.until

@@ -51,14 +51,12 @@ pub fn counted(found: Option<Hit>, k: usize, inside: bool) -> Option<Hit>
     requires { seen_count found ≤ most_samples }
     ensures { result ≡ stepped found k inside }
 {
-    if !inside {
-        return found;
-    }
     match found {
         Some(hit) => Some(Hit {
-            count: hit.count + 1,
+            count: hit.count + usize::from(inside),
             ..hit
         }),
-        None => Some(Hit { first: k, count: 1 }),
+        None if inside => Some(Hit { first: k, count: 1 }),
+        None => None,
     }
 }
