@@ -1,11 +1,12 @@
--- Rows, one part of a tree after the other. Assumes nothing.
+-- Rows, one part of a tree after the other; and words that are 0. Assumes nothing.
 use Prim.Native.Nat.{ℕ, zero, suc, ◌+◌, ◌-◌, ◌*◌, ◌≤◌, ◌<◌}
 use mathlib.Core.List.{List, [], ◌∷◌, ◌++◌}
 use mathlib.Core.Path.{◌≡◌, refl, sym, ap, ap₂, subst, ◌∙◌}
 use native.Mathlib.Omega.{arith}
 use lib.IntN.{ℤ, pos}
-use lib.ListN.{length}
+use lib.ListN.{length, length-replicate, set, replicate}
 use lib.Seq.{sets, length-sets}
+use Rattle.std.proofs.lemmas.List.{replicate_more}
 use Rattle.ground.proofs.Writes.{sets_append}
 use Rattle.rules.specs.Form.{Form, leaf, ◌∪◌, ◌∩◌, ◌∖◌}
 use Rattle.rules.specs.TreeRows.{rows_in, rows_from}
@@ -16,7 +17,7 @@ use Rattle.normal.specs.declared.Top.TheVariants.{Node}
 use Rattle.normal.specs.Prefix.{top, head, left_of, right_of, Small, Lies}
 use Rattle.normal.proofs.Reading.{tree_at, lies_tree}
 use Rattle.normal.proofs.Words.{parts_of, flat_leaf, number_le, node_head, top_node, lies_left, lies_right}
-use Rattle.finished.specs.Rows.{Rowed, Emitted}
+use Rattle.finished.specs.Rows.{Rowed, Emitted, zeros}
 
 -- the last row of a node
 abbrev own : ℕ → Form → List ℤ
@@ -133,3 +134,15 @@ module _ {w : List ℤ} {at : ℕ} {T : Form} {o : Operation} (l : Lies w at T) 
       node_done f d =
           node_rowed l is_node left_rows right_rows
           (d ∙ ap (λ (x : ℕ). sets fin (e * 3) (pos x ∷ pos (m - 1) ∷ pos (e - 1) ∷ [])) (f ∙ ap (λ (x : ℕ). x - 16) (sym (top_node T (tops T l)))))
+
+-- ---- clearing
+pub no_zeros : (w : List ℤ) → w ≡ sets w 0 (zeros 0)
+unfolding zeros
+no_zeros w = refl
+
+pub clear_more : (w : List ℤ) (i : ℕ) → set (sets w 0 (zeros i)) i (pos 0) ≡ sets w 0 (zeros (i + 1))
+unfolding zeros
+clear_more w i =
+    let cleared : List ℤ = sets w 0 (replicate i (pos 0)) in
+    let place : i ≡ 0 + length (replicate i (pos 0)) = omega (arith, length-replicate i (pos 0)) in
+    ap (λ (n : ℕ). set cleared n (pos 0)) place ∙ sym (sets_append w 0 (replicate i (pos 0)) (pos 0 ∷ [])) ∙ ap (sets w 0) (replicate_more i (pos 0))

@@ -1,5 +1,5 @@
 -- The rows of a tree that lies in the work area, and what writing them leaves.
-use Rattle.std.specs.Prelude.{ℕ, ◌+◌, ◌*◌, ◌≤◌, List, ◌≡◌, ℤ, length}
+use Rattle.std.specs.Prelude.{ℕ, ◌+◌, ◌*◌, ◌≤◌, List, ◌≡◌, ℤ, pos, length, replicate}
 use Rattle.std.proofs.lemmas.List.Edits.{sets}
 use Rattle.rules.specs.Form.{Form}
 use Rattle.rules.specs.TreeRows.{rows_in, rows_from}
@@ -16,3 +16,7 @@ pub record Rowed (out done : List ℤ) (row : ℕ) (T : Form) (r : ℕ) : Type 0
 
 abbrev pub Emitted : List ℤ → ℕ → List ℤ → List ℤ → ℕ → ℕ → Type 0
 Emitted w at out done row r = (T : Form) → Lies w at T → Rowed out done row T r
+
+-- so many words that are 0
+unfoldable pub zeros : ℕ → List ℤ
+zeros n = replicate n (pos 0)

@@ -1,8 +1,10 @@
-// The rows of a tree in prefix form.
+// The rows of a tree in prefix form, and clearing the work area.
 
 #![tactic(auto)]
 
-ghost use Rattle.finished.specs.Rows.{Fits, Emitted};
+ghost use Rattle.std.specs.Prelude.{◌≤◌, ◌≡◌, length};
+ghost use Rattle.std.proofs.lemmas.List.Edits.{sets};
+ghost use Rattle.finished.specs.Rows.{Fits, Emitted, zeros};
 
 use normal::Top;
 
@@ -26,5 +28,15 @@ pub fn emit(w: &[i32], at: usize, out: &mut [i32], row: usize) -> usize
             );
             end + 1
         }
+    }
+}
+
+// The first n words are 0.
+pub fn clear(w: &mut [i32], n: usize)
+    requires { n ≤ length w.old }
+    ensures { w.new ≡ sets w.old 0 (zeros n) }
+{
+    for i in 0..n {
+        w[i] = 0;
     }
 }

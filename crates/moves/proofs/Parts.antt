@@ -6,8 +6,8 @@ use native.Mathlib.Omega.{arith}
 use lib.IntN.{ℤ, pos}
 use lib.ListN.{length, length-append, drop}
 use lib.Seq.{sets, append_snoc}
-use Rattle.moves.specs.Moves.{node, LeanTo}
-use Rattle.moves.proofs.Moving.{Opened, Copied, one_put, two_put}
+use Rattle.moves.specs.Moves.{node, Opened, Copied, LeanTo}
+use Rattle.moves.proofs.Moving.{one_put, two_put}
 
 -- a run of one word, and of two
 one_word : (j : List ℤ) → length j ≡ 1 → (x : ℤ) × (j ≡ x ∷ [])

@@ -25,6 +25,18 @@ IsWord x = x < 32 + 32 * most_words
 abbrev pub AreWords : List ℕ → Type 0
 AreWords xs = (i : ℕ) → i < length xs → IsWord (slice_index xs i)
 
+-- b has moved up by k; what stands before it now is of no account
+abbrev pub Opened : List ℤ → List ℤ → ℕ → ℕ → ℕ → Type 0
+Opened w v at k end =
+    (p b c : List ℤ) → w ≡ p ++ (b ++ c) → length p ≡ at → at + length b ≡ end
+    → (j : List ℤ) × (v ≡ p ++ (j ++ (b ++ drop k c))) × (length j ≡ k)
+
+-- x stands a second time, in the place of j
+abbrev pub Copied : List ℤ → List ℤ → ℕ → ℕ → ℕ → Type 0
+Copied w v from to n =
+    (p x b j c : List ℤ) → w ≡ p ++ (x ++ (b ++ (j ++ c))) → length p ≡ from → length x ≡ n → length j ≡ n → from + n + length b ≡ to
+    → v ≡ p ++ (x ++ (b ++ (x ++ c)))
+
 -- 1, 4, 6: k X (q Y Z) becomes p (r X Y) Z, where b is Y, Z and what follows
 abbrev pub LeanTo : List ℤ → List ℤ → ℕ → ℕ → ℕ → ℕ → ℕ → Type 0
 LeanTo w v at right middle p r =

@@ -6,7 +6,7 @@
 ghost use Rattle.std.specs.Prelude.{◌+◌, ◌*◌, ◌-◌, ◌<◌, ◌≤◌, ◌≡◌, ◌≢◌, [], ◌∷◌, pos, length, map, MatchOption};
 ghost use Rattle.std.proofs.lemmas.List.Edits.{sets};
 ghost use Rattle.moves.specs.declared.Operation.{Operation};
-ghost use Rattle.moves.specs.Moves.{most_words, operation_number, AreWords, IsWord, LeanTo, SplitTo, SwapTo, ShareTo};
+ghost use Rattle.moves.specs.Moves.{most_words, operation_number, AreWords, IsWord, Opened, Copied, LeanTo, SplitTo, SwapTo, ShareTo};
 
 // The set operations: 16 and the kind of the row that tells of each.
 #[derive(Clone, Copy, PartialEq, Eq, Debug)]
@@ -62,6 +62,26 @@ pub fn put(w: &mut [i32], at: usize, words: &[usize])
     }
 }
 
+// The words from `at` up to `end` move up by k, the last first.
+fn make_room(w: &mut [i32], at: usize, k: usize, end: usize)
+    requires { (at ≤ end) × (1 ≤ k) × (end + k ≤ length w.old) }
+    ensures { Opened w.old w.new at k end }
+{
+    for i in (at..end).rev() {
+        w[i + k] = w[i];
+    }
+}
+
+// n words at `from` also stand at `to`, which lies past them.
+fn copy(w: &mut [i32], from: usize, to: usize, n: usize)
+    requires { (from + n ≤ to) × (to + n ≤ length w.old) }
+    ensures { Copied w.old w.new from to n }
+{
+    for i in 0..n {
+        w[to + i] = w[from + i];
+    }
+}
+
 // 1, 4, 6: k X (q Y Z) becomes p (r X Y) Z, where Y has `middle` words.
 pub fn lean(w: &mut [i32], at: usize, right: usize, middle: usize, p: Operation, r: Operation)
     requires right_in_bounds { (at + 1 ≤ right) × (right + 1 ≤ length w.old) }
@@ -69,7 +89,7 @@ pub fn lean(w: &mut [i32], at: usize, right: usize, middle: usize, p: Operation,
     ensures { LeanTo w.old w.new at right middle (operation_number p) (operation_number r) }
 {
     let first = right - at - 1;
-    w.copy_within(at + 1..right, at + 2);
+    make_room(w, at + 1, 1, right);
     put(w, at, &[p.word(first + middle + 1), r.word(first)]);
 }
 
@@ -90,9 +110,9 @@ pub fn split(
     let first = right - at - 1;
     lean(w, at, right, middle, Operation::Union, r);
     let place = right + 1 + middle;
-    w.copy_within(place..used, place + first + 1);
+    make_room(w, place, first + 1, used);
     put(w, place, &[s.word(first)]);
-    w.copy_within(at + 2..at + 2 + first, place + 1);
+    copy(w, at + 2, place + 1, first);
     used + first + 1
 }
 
@@ -104,7 +124,7 @@ pub fn swap(w: &mut [i32], at: usize, first: usize, right: usize, z: usize)
     ensures { SwapTo w.old w.new at first right (pos z) }
 {
     let place = at + 2 + first;
-    w.copy_within(place..right, place + 1);
+    make_room(w, place, 1, right);
     put(w, place, &[z]);
     put(
         w,
@@ -132,7 +152,7 @@ pub fn share(
     ensures { ShareTo w.old w.new at first right (operation_number k) (pos z) used result }
 {
     let place = at + 2 + first;
-    w.copy_within(place..used, place + 2);
+    make_room(w, place, 2, used);
     put(w, place, &[z, k.word(right - place)]);
     put(w, at, &[Operation::Union.word(first + 2), k.word(first)]);
     used + 2

@@ -2,10 +2,11 @@
 
 #![tactic(auto)]
 
-ghost use Rattle.std.specs.Prelude.{◌≡◌, pos, replicate};
+ghost use Rattle.std.specs.Prelude.{◌≤◌, ◌≡◌, pos, length, replicate};
 ghost use Rattle.std.proofs.Math.Option.{none};
 ghost use Rattle.rules.specs.declared.Rule.TheVariants.{Text};
 ghost use Rattle.rules.specs.Verdict.{table_refusal};
+ghost use Rattle.rules.specs.Outcome.{over};
 ghost use Rattle.rules.specs.TextCalls.{TextRead};
 ghost use Rattle.piece.specs.Pieces.{RightCount};
 ghost use Rattle.reading.specs.Reading.{Begun, FormRead, Given};
@@ -50,6 +51,16 @@ fn read_form(text: &[u8], table: &mut [i32]) -> Result<usize, FaultyLine>
     read_rows(text, header.next, table, header.value)
 }
 
+// Puts words at the start of a table that has room for them.
+fn copy(words: &[i32], table: &mut [i32])
+    requires { length words.now ≤ length table.old }
+    ensures { table.new ≡ over words.now table.old }
+{
+    for i in 0..words.len() {
+        table[i] = words[i];
+    }
+}
+
 // A table without a fault: the room, then the words.
 fn give_sound(words: &[i32], table: &mut [i32]) -> Result<usize, Refusal>
     requires { table_refusal words.now ≡ none }
@@ -59,7 +70,7 @@ fn give_sound(words: &[i32], table: &mut [i32]) -> Result<usize, Refusal>
     if table.len() < needed {
         return Err(Refusal::new(Rule::Room, needed));
     }
-    table[..needed].copy_from_slice(words);
+    copy(words, table);
     Ok(needed)
 }
 

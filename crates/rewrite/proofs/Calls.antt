@@ -38,6 +38,7 @@ use Rattle.moves.specs.Moves.{most_words}
 use Rattle.normal.specs.Held.{Ready}
 use Rattle.normal.specs.Prefix.{flat}
 use Rattle.normal.proofs.Words.{length_flat}
+use Rattle.finished.specs.Rows.{zeros}
 use Rattle.flatten.specs.Forms.{Laid}
 use Rattle.rewrite.specs.Limits.{Limits, Finished}
 use Rattle.rewrite.proofs.Numbers.{root_small}
@@ -67,6 +68,12 @@ nothing_past w =
     ap (λ (l : List ℤ). replicate (length w) (pos 0) ++ l)
     (ap (λ (n : ℕ). drop n w) (length-replicate (length w) (pos 0)) ∙ none_left (length w) (drop (length w) w) (length-drop (length w) w))
     ∙ append-nil (replicate (length w) (pos 0))
+
+pub clear_all : (w : List ℤ) → sets w 0 (zeros (length w)) ≡ replicate (length w) (pos 0)
+unfolding zeros
+clear_all w =
+    let Z : List ℤ = replicate (length w) (pos 0) in
+    sets-eq Z w 0 (omega (arith, length-replicate (length w) (pos 0))) ∙ ap (λ (k : ℕ). Z ++ drop k w) (zero-add (length Z)) ∙ nothing_past w
 
 -- ---- the rules in their order
 module _ (t before work : List ℤ) where

@@ -21,7 +21,7 @@ fn write_tree(table: &[i32], tree: &mut [i32], work: &mut [i32]) -> usize
     let used = flatten::lay(table, work, 0, table::root(table));
     normal::normalize(work, 0, used);
     let rows = finished::emit(work, 0, tree, 0);
-    work.fill(0);
+    finished::clear(work, work.len());
     rows * rules::TREE_ROW_WORDS
 }
 

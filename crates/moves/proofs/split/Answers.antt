@@ -1,13 +1,11 @@
 use Prim.Native.Nat.{ℕ, ◌+◌, ◌-◌}
-use mathlib.Core.List.{[], ◌∷◌, ◌++◌}
-use mathlib.Core.Path.{◌≡◌, sym, ap, ◌∙◌}
+use mathlib.Core.List.{List, [], ◌∷◌, ◌++◌}
+use mathlib.Core.Path.{◌≡◌, sym, ap, subst, ◌∙◌}
 use native.Mathlib.Omega.{arith}
 use lib.IntN.{ℤ, pos}
 use lib.ListN.{length, drop}
 use lib.Seq.{sets}
-use Rattle.std.specs.List.{copy_within}
-use Rattle.moves.specs.Moves.{node, operation_number}
-use Rattle.moves.proofs.Moving.{opened, copies}
+use Rattle.moves.specs.Moves.{node, operation_number, Copied}
 use Rattle.moves.proofs.Parts.{split_up}
 use Rattle.moves.proofs.split.Goals as goal
 
@@ -21,11 +19,10 @@ returns c =
     let p : ℤ = node 19 (1 + length x + c.args.middle) in
     let r : ℤ = node (operation_number c.args.r) (length x) in
     let t : ℕ → ℤ = node (operation_number c.args.s) in
-    let g : c.put.new.w ≡ sets c.copy_within.new.self place (t n ∷ []) =
-    c.put.ensures ∙ ap (λ (z : ℕ). sets c.copy_within.new.self place (pos z ∷ [])) c.word.ensures.value in (
+    let g : c.put.new.w ≡ sets c.make_room.new.w place (t n ∷ []) =
+    c.put.ensures ∙ ap (λ (z : ℕ). sets c.make_room.new.w place (pos z ∷ [])) c.word.ensures.value in (
       omega arith,
       split_up p r (t n) a x y e d (c.lean.ensures a x (y ++ (e ++ d)) k q is ha hx) ha (sym l) (omega arith) (omega arith)
-          (opened place (n + 1) c.args.used c.copy_within.ensures.after (omega arith) (omega arith))
-          (copies (at + 2) (place + 1) n (c.copy_within-2.ensures.after ∙ ap (λ w. copy_within w (at + 2) (at + 2 + n) (place + 1)) g))
+          c.make_room.ensures (subst (λ (u : List ℤ). Copied u c.copy.new.w (at + 2) (place + 1) n) g c.copy.ensures)
           ∙ ap (λ (j : ℕ). a ++ (p ∷ (r ∷ (x ++ (y ++ (t j ∷ (x ++ (e ++ drop (j + 1) d)))))))) l,
     )

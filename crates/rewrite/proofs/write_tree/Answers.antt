@@ -15,7 +15,7 @@ use Rattle.normal.proofs.Words.{held_lies}
 use Rattle.flatten.specs.Forms.{Laid}
 use Rattle.flatten.proofs.Laws.{laid_length}
 use Rattle.rewrite.specs.Limits.{Limits}
-use Rattle.rewrite.proofs.Calls.{sound, rows_fit, form_fits, laid_ready, rows_over, rows_many}
+use Rattle.rewrite.proofs.Calls.{clear_all, sound, rows_fit, form_fits, laid_ready, rows_over, rows_many}
 use Rattle.rewrite.proofs.write_tree.Goals as goal
 
 -- the tree of the table stands in the work area
@@ -53,5 +53,5 @@ returns c =
     let r = c.emit-rows.ensures (finished_tree c.args.table.now) (held_lies h) in record {
       size = rows_many c.requires r.ends;
       tree = rows_over c.requires r.written;
-      zeroed = c.fill.ensures.after (λ y e. e) ∙ ap (λ (n : ℕ). replicate n (pos 0)) (c.normalize.auto.w ∙ laid_length c.lay-used.ensures);
+      zeroed = c.clear.ensures ∙ clear_all c.normalize.new.w ∙ ap (λ (n : ℕ). replicate n (pos 0)) (c.normalize.auto.w ∙ laid_length c.lay-used.ensures);
     }
