@@ -71,7 +71,7 @@ fn accepted_search(
     search_in(table, list, samples, place)
 }
 
-// What it answers.
+// Table and list are accepted: what the search of a frame answers.
 pub fn search_by(table: &[i32], list: &[u64], samples: &[i16], place: Place) -> Searched
     requires { Accepted table.now list.now }
     ensures { ListSearched table.now list.now samples.now place result }
