@@ -11,12 +11,13 @@ use Rattle.ground.specs.Lists.{first_of}
 use Rattle.rules.specs.declared.Place.{Place}
 use Rattle.rules.specs.declared.Point.{Point}
 use Rattle.rules.specs.declared.Refusal.{Refusal}
+use Rattle.rules.specs.declared.Searched.TheVariants as searched
 use Rattle.rules.specs.Frame.{frame_refusal, leaves_refusal, sample_inside, first_inside, inside_count}
 use Rattle.rules.specs.ListCalls.{accept_refusal, ListLocated, ListSearched}
 use Rattle.rules.specs.ListInside.{inside_list}
 use Rattle.rules.specs.ListWords.{list_window}
 use Rattle.rules.specs.Table.{primitives}
-use Rattle.rules.specs.Told.{Tale, Told, fine, refused, tell}
+use Rattle.rules.specs.Told.{Tale, Told, fine, refused, tell, searched_of}
 use Rattle.rules.specs.TreeCalls.{point_refusal, point_tale, search_tale}
 use Rattle.laws.proofs.Telling.{point_told, told_now, told_later, told_fine}
 use Rattle.frame.proofs.Tallies.{tally_told}
@@ -63,22 +64,22 @@ module _ (t : List ℤ) (list : List ℕ) where
     abbrev leaves : Option Refusal
     leaves = leaves_refusal (list_window list) samples place
 
-    pub search_refused : {r : Refusal} → accept_refusal t list ≡ some r → ListSearched t list samples place (Err r)
+    pub search_refused : {r : Refusal} → accept_refusal t list ≡ some r → ListSearched t list samples place (searched.Refused r)
     search_refused h = record { answer = refused_by (frame_refusal samples place ∷ leaves ∷ []) tale h }
 
     module _ (A : Accepted t list) where
-      pub search_frame : {r : Refusal} → frame_refusal samples place ≡ some r → ListSearched t list samples place (Err r)
+      pub search_frame : {r : Refusal} → frame_refusal samples place ≡ some r → ListSearched t list samples place (searched.Refused r)
       search_frame k = record { answer = goes_on (frame_refusal samples place ∷ leaves ∷ []) tale A (told_now (frame_refusal samples place) (leaves ∷ []) tale k) }
 
       module _ (f : frame_refusal samples place ≡ none) where
         framed : {told : Told} → told ≡ tell (first_of (leaves ∷ [])) tale → told ≡ tell (first_of (accept_refusal t list ∷ frame_refusal samples place ∷ leaves ∷ [])) tale
         framed e = goes_on (frame_refusal samples place ∷ leaves ∷ []) tale A (told_later (frame_refusal samples place) (leaves ∷ []) tale f e)
 
-        pub search_leaves : {r : Refusal} → leaves ≡ some r → ListSearched t list samples place (Err r)
+        pub search_leaves : {r : Refusal} → leaves ≡ some r → ListSearched t list samples place (searched.Refused r)
         search_leaves k = record { answer = framed (told_now leaves [] tale k) }
 
         pub search_fine : leaves ≡ none → {n : Tally} → Tallied (sample_inside is_inside samples place) (length samples) n
-            → ListSearched t list samples place (Ok n)
+            → ListSearched t list samples place (searched_of (Ok n))
         unfolding first_inside inside_count
         search_fine k {n} tallied = record {
           answer = tally_told n ∙ (λ i. fine (search_tale (tallied.first i) (tallied.count i))) ∙ framed (told_later leaves [] tale k (told_fine tale));

@@ -7,10 +7,11 @@ ghost use Rattle.std.specs.Prelude.{◌≡◌};
 ghost use Rattle.rules.specs.Boxes.{window_box};
 ghost use Rattle.rules.specs.Frame.{frame_refusal, leaves_refusal};
 ghost use Rattle.rules.specs.ListCalls.{ListLocated, ListSearched};
+ghost use Rattle.rules.specs.Told.{searched_of};
 ghost use Rattle.laws.specs.Checking.{checked_by};
 ghost use Rattle.says.specs.Checks.{Accepted};
 
-use rules::{Hit, Place, Point, Refusal, Rule, Window};
+use rules::{Hit, Place, Point, Refusal, Rule, Searched, Window};
 use says::Asked;
 
 // Table and list are accepted: the window, then the products.
@@ -50,34 +51,49 @@ fn search_in(
 ) -> Result<Option<Hit>, Refusal>
     requires accepted { Accepted table.now list.now }
     requires place_value { frame_refusal samples.now place ≡ none }
-    ensures { ListSearched table.now list.now samples.now place result }
+    ensures { ListSearched table.now list.now samples.now place (searched_of result) }
 {
     check_leaves(layout::window_of(list), samples, place)?;
     Ok(sweep::scan(Asked::List, table, list, samples, place))
 }
 
 // Table and list are accepted: the frame, then its samples.
-pub fn search_by(
+fn accepted_search(
     table: &[i32],
     list: &[u64],
     samples: &[i16],
     place: Place,
 ) -> Result<Option<Hit>, Refusal>
     requires { Accepted table.now list.now }
-    ensures { ListSearched table.now list.now samples.now place result }
+    ensures { ListSearched table.now list.now samples.now place (searched_of result) }
 {
     frame::check_frame(samples, place)?;
     search_in(table, list, samples, place)
 }
 
-pub fn list_search(
+// Table and list are accepted: what the search of a frame answers.
+pub fn search_by(table: &[i32], list: &[u64], samples: &[i16], place: Place) -> Searched
+    requires { Accepted table.now list.now }
+    ensures { ListSearched table.now list.now samples.now place result }
+{
+    Searched::from(accepted_search(table, list, samples, place))
+}
+
+// Table and list, then the frame and its samples.
+fn checked_search(
     table: &[i32],
     list: &[u64],
     samples: &[i16],
     place: Place,
 ) -> Result<Option<Hit>, Refusal>
-    ensures { ListSearched table.now list.now samples.now place result }
+    ensures { ListSearched table.now list.now samples.now place (searched_of result) }
 {
     accept::check_both(table, list)?;
-    search_by(table, list, samples, place)
+    accepted_search(table, list, samples, place)
+}
+
+pub fn list_search(table: &[i32], list: &[u64], samples: &[i16], place: Place) -> Searched
+    ensures { ListSearched table.now list.now samples.now place result }
+{
+    Searched::from(checked_search(table, list, samples, place))
 }

@@ -1,8 +1,10 @@
 -- What C gets of a call, by what the outcome tells (section 12 of docs/RULES.md): its number and values as three numbers; and what C reads in them.
-use Rattle.std.specs.Prelude.{ℕ, true, false, Ok, Err, Some, None, eqb, if◌then◌else◌}
+use Rattle.std.specs.Prelude.{ℕ, true, false, Ok, Err, eqb, if◌then◌else◌}
 use Rattle.rules.specs.declared.Refusal.{Refusal}
+use Rattle.rules.specs.declared.Searched.{Searched}
+use Rattle.rules.specs.declared.Searched.TheVariants as searched
 use Rattle.rules.specs.Rules.{rule_of}
-use Rattle.rules.specs.Told.{Checked, Located, Searched, Written, Tale, sound, inside, outside, clear, hit, wrote, refusal, Told}
+use Rattle.rules.specs.Told.{Checked, Located, Written, Tale, sound, inside, outside, clear, hit, wrote, refusal, Told}
 use Rattle.answer_c.specs.declared.Answer.{Answer}
 
 abbrev pub value_of : Tale → ℕ
@@ -38,7 +40,7 @@ abbrev pub read_located : Answer → Located
 read_located a = unless_refused Err a (if eqb a.value 0 then Ok false else Ok true)
 
 abbrev pub read_searched : Answer → Searched
-read_searched a = unless_refused Err a (if eqb a.count 0 then Ok None else Ok (Some (record { first = a.value; count = a.count })))
+read_searched a = unless_refused searched.Refused a (if eqb a.count 0 then searched.Clear else searched.Hit a.value a.count)
 
 abbrev pub read_written : Answer → Written
 read_written a = unless_refused Err a (Ok a.value)

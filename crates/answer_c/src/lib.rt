@@ -3,10 +3,10 @@
 #![tactic(auto)]
 
 ghost use Rattle.std.specs.Prelude.{◌≡◌};
-ghost use Rattle.rules.specs.Told.{Tale, checked_tale, located_tale, searched_tale, wrote, told_by};
+ghost use Rattle.rules.specs.Told.{Tale, checked_tale, located_tale, searched_tale, wrote, told_by, told_searched, refused_by};
 ghost use Rattle.answer_c.specs.Answers.{value_of, count_of, answer_of};
 
-use rules::{Hit, Refusal};
+use rules::{Hit, Refusal, Searched};
 
 // The refusal's number, 0 where nothing is refused; then its value, 1 for inside, the words or bytes written, or the position of the first inside
 // sample; then the number of inside samples. What is not named is 0.
@@ -16,6 +16,17 @@ pub struct Answer {
     pub refusal: u64,
     pub value: u64,
     pub count: u64,
+}
+
+// The answer with these numbers.
+fn numbers(refusal: u64, value: u64, count: u64) -> Answer
+    ensures { result ≡ record { refusal = refusal; value = value; count = count } }
+{
+    Answer {
+        refusal,
+        value,
+        count,
+    }
 }
 
 // What a call answers where it refuses nothing, told in two numbers.
@@ -66,6 +77,13 @@ impl Outcome for usize {
     }
 }
 
+// The answer of a refusal: its number, and the value that goes with it.
+pub fn refused(number: u64, value: u64) -> Answer
+    ensures { result ≡ answer_of (refused_by number value) }
+{
+    numbers(number, value, 0)
+}
+
 // The answer that tells an outcome.
 pub fn tell<T: Outcome>(outcome: Result<T, Refusal>) -> Answer
     ensures { result ≡ answer_of (told_by T.tale outcome) }
@@ -73,16 +91,19 @@ pub fn tell<T: Outcome>(outcome: Result<T, Refusal>) -> Answer
     match outcome {
         Ok(told) => {
             let (value, count) = told.value_and_count();
-            Answer {
-                refusal: 0,
-                value,
-                count,
-            }
+            numbers(0, value, count)
         }
-        Err(refusal) => Answer {
-            refusal: refusal.rule.number(),
-            value: refusal.value,
-            count: 0,
-        },
+        Err(refusal) => refused(refusal.rule.number(), refusal.value),
+    }
+}
+
+// The answer of the search of a frame.
+pub fn of_searched(searched: Searched) -> Answer
+    ensures { result ≡ answer_of (told_searched searched) }
+{
+    match searched {
+        Searched::Clear => tell(Ok(None::<Hit>)),
+        Searched::Hit { first, count } => tell(Ok(Some(Hit { first, count }))),
+        Searched::Refused(refusal) => refused(refusal.rule.number(), refusal.value),
     }
 }

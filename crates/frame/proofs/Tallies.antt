@@ -7,7 +7,7 @@ use mathlib.Core.List.{List}
 use mathlib.Core.Option.{Option, some}
 use mathlib.Core.Path.{◌≡◌, refl, sym, ap, ◌∙◌}
 use Rattle.std.specs.Prelude.{Some, None, Ok, if◌then◌else◌}
-use Rattle.rules.specs.Told.{fine, told_searched}
+use Rattle.rules.specs.Told.{fine, told_searched, searched_of}
 use Rattle.rules.specs.TreeCalls.{search_tale}
 use Rattle.ground.specs.Lists.{rest, below, or_else, find_if, count_if}
 use Rattle.ground.proofs.Counting.{rest_cons, rest_done, rest_all, or_else_none}
@@ -61,6 +61,6 @@ ends test {n} {k} {t} l r = record {
 }
 
 -- and that is what the search tells
-pub tally_told : (t : Tally) → told_searched (Ok t) ≡ fine (search_tale (seen t) (seen_count t))
+pub tally_told : (t : Tally) → told_searched (searched_of (Ok t)) ≡ fine (search_tale (seen t) (seen_count t))
 tally_told None = refl
 tally_told (Some found) = refl

@@ -1,6 +1,6 @@
 // What an answer tells, after the name of what was asked.
 use crate::say;
-use rules::{Hit, Refusal};
+use rules::{Refusal, Searched};
 use std::fmt::Display;
 
 // What a buffer is filled with before the call; no list and no triple here has such a word.
@@ -32,11 +32,11 @@ pub fn located(rt: &impl Print, answer: Result<bool, Refusal>) {
 }
 
 // Says what the search of a frame answers.
-pub fn searched(rt: &impl Print, answer: Result<Option<Hit>, Refusal>) {
+pub fn searched(rt: &impl Print, answer: Searched) {
     match answer {
-        Ok(None) => say(rt, "clear"),
-        Ok(Some(hit)) => say(rt, format_args!("hit\t{}\t{}", hit.first, hit.count)),
-        Err(refusal) => refused(rt, refusal),
+        Searched::Clear => say(rt, "clear"),
+        Searched::Hit { first, count } => say(rt, format_args!("hit\t{first}\t{count}")),
+        Searched::Refused(refusal) => refused(rt, refusal),
     }
 }
 

@@ -24,6 +24,7 @@ use Rattle.rules.specs.declared.Place.{Place}
 use Rattle.rules.specs.declared.Point.{Point}
 use Rattle.rules.specs.declared.Product.{Product}
 use Rattle.rules.specs.declared.Refusal.{Refusal}
+use Rattle.rules.specs.declared.Searched.{Searched}
 use Rattle.rules.specs.declared.Window.{Window}
 use Rattle.rules.specs.Boxes.{Box, holds, everywhere, window_box}
 use Rattle.rules.specs.Choices.{expansion}
@@ -36,7 +37,7 @@ use Rattle.rules.specs.ListWords.{list_window}
 use Rattle.rules.specs.Ranges.{Span, within, columns, codes, frames}
 use Rattle.rules.specs.Refusals.{refuse, refuse_unless}
 use Rattle.rules.specs.Table.{primitives}
-use Rattle.rules.specs.Told.{Located, Searched, tell, told_located, refused_by}
+use Rattle.rules.specs.Told.{Located, tell, told_located, refused_by}
 use Rattle.rules.specs.Tree.{tree_of}
 use Rattle.rules.specs.TreeCalls.{axis_refusal, point_refusal, point_tale, search_tale, tree_point_refusal, TreeLocated, tree_search_refusal, TreeSearched}
 use Rattle.rules.specs.Verdict.{table_refusal}

@@ -11,10 +11,11 @@ use lib.IntN.{ℤ}
 use lib.ListN.{length}
 use Rattle.ground.specs.Lists.{first_of}
 use Rattle.rules.specs.declared.Refusal.{Refusal}
+use Rattle.rules.specs.declared.Searched.{Searched}
 use Rattle.rules.specs.Refusals.{room_refusal}
 use Rattle.rules.specs.TextCalls.{table_read, read_refusal, TextRead}
 use Rattle.rules.specs.TextForm.{TextForm}
-use Rattle.rules.specs.Told.{Located, Searched, Written, Tale, Told, sound, clear, hit, wrote, refusal, fine, refused, tell, told_checked, told_located, told_searched, told_written}
+use Rattle.rules.specs.Told.{Located, Written, Tale, Told, sound, clear, hit, wrote, refusal, fine, refused, tell, told_checked, told_located, told_searched, told_written}
 use Rattle.rules.specs.TreeCalls.{point_tale, search_tale, TableChecked}
 use Rattle.rules.specs.Verdict.{table_refusal}
 use Rattle.rules.proofs.Settled.{checked_settled, form_once}

@@ -13,6 +13,7 @@ use Rattle.rules.specs.declared.Place.{Place}
 use Rattle.rules.specs.declared.Point.{Point}
 use Rattle.rules.specs.declared.Rectangle.{Rectangle}
 use Rattle.rules.specs.declared.Refusal.{Refusal}
+use Rattle.rules.specs.declared.Searched.{Searched}
 use Rattle.rules.specs.declared.Window.{Window}
 use Rattle.rules.specs.Frame.{sample_inside, first_inside, inside_count}
 use Rattle.rules.specs.Inside.{inside}
@@ -22,7 +23,7 @@ use Rattle.rules.specs.ListInside.{inside_list}
 use Rattle.rules.specs.RewriteCall.{rewrite_refusal, TreeRewritten}
 use Rattle.rules.specs.Table.{primitives}
 use Rattle.rules.specs.TextCalls.{read_refusal, TextRead, write_refusal, TextWritten}
-use Rattle.rules.specs.Told.{Checked, Located, Searched, Written, Tale, Told, sound, fine, tell, told_checked, told_located, told_searched, told_written}
+use Rattle.rules.specs.Told.{Checked, Located, Written, Tale, Told, sound, fine, tell, told_checked, told_located, told_searched, told_written}
 use Rattle.rules.specs.Tree.{tree_of}
 use Rattle.rules.specs.TreeCalls.{point_tale, search_tale, TableChecked, tree_point_refusal, TreeLocated, tree_search_refusal, TreeSearched}
 use Rattle.rules.specs.Verdict.{table_refusal}

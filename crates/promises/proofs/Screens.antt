@@ -8,10 +8,11 @@ use lib.ListN.{length, take, drop}
 use Rattle.ground.proofs.Pieces.{piece_below}
 use Rattle.rules.specs.declared.Place.{Place}
 use Rattle.rules.specs.declared.Refusal.{Refusal}
+use Rattle.rules.specs.declared.Searched.{Searched}
 use Rattle.rules.specs.ListCalls.{ListSearched, frame_triple, screen_triples, screen_refusal, ScreenSearched}
 use Rattle.rules.specs.Outcome.{leave}
 use Rattle.rules.specs.Screen.{frame_at, later, triple_words, triple_of}
-use Rattle.rules.specs.Told.{Searched, Written, fine, wrote, tell, told_searched, told_written}
+use Rattle.rules.specs.Told.{Written, fine, wrote, tell, told_searched, told_written}
 use Rattle.rules.proofs.Told.{wrote_none}
 use Rattle.laws.proofs.Screens.{triple_length}
 

@@ -15,8 +15,9 @@ use Rattle.ground.proofs.Saying.{says_any}
 use Rattle.rules.specs.declared.Place.{Place}
 use Rattle.rules.specs.declared.Point.{Point}
 use Rattle.rules.specs.declared.Refusal.{Refusal}
+use Rattle.rules.specs.declared.Searched.{Searched}
 use Rattle.rules.specs.Frame.{held_codes, point_of, sample_inside, first_inside, inside_count}
-use Rattle.rules.specs.Told.{Searched, tell, told_searched}
+use Rattle.rules.specs.Told.{tell, told_searched}
 use Rattle.rules.specs.TreeCalls.{search_tale}
 use Rattle.promises.specs.Promises.{SampleIn, Counted, Found, Search}
 use Rattle.promises.proofs.Outcomes.{hit_told, clear_told, search_told}

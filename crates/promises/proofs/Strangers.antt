@@ -13,13 +13,14 @@ use Rattle.ground.proofs.Counting.{broken, rulings_none, first_kept}
 use Rattle.rules.specs.declared.Rule.TheVariants as rule
 use Rattle.rules.specs.declared.Place.{Place}
 use Rattle.rules.specs.declared.Refusal.{Refusal}
+use Rattle.rules.specs.declared.Searched.{Searched}
 use Rattle.rules.specs.Frame.{frame_refusal, leaves_refusal, first_inside, inside_count}
 use Rattle.rules.specs.ListCalls.{accept_refusal, list_search_refusal, ListSearched}
 use Rattle.rules.specs.ListInside.{inside_list}
 use Rattle.rules.specs.ListWords.{list_window}
 use Rattle.rules.specs.Refusals.{refuse, refuse_unless}
 use Rattle.rules.specs.Table.{primitives}
-use Rattle.rules.specs.Told.{Searched, refused, tell, told_searched, refused_by}
+use Rattle.rules.specs.Told.{refused, tell, told_searched, refused_by}
 use Rattle.rules.specs.TreeCalls.{search_tale}
 use Rattle.promises.proofs.ListAsTree.{sample_held, sample_rule, held_upto}
 use Rattle.laws.proofs.Soundness.{unless_kept}

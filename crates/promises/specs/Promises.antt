@@ -10,6 +10,7 @@ use Rattle.rules.specs.declared.Point.{Point}
 use Rattle.rules.specs.declared.Product.{Product}
 use Rattle.rules.specs.declared.Rectangle.{Rectangle}
 use Rattle.rules.specs.declared.Refusal.{Refusal}
+use Rattle.rules.specs.declared.Searched.{Searched}
 use Rattle.rules.specs.declared.Rule.TheVariants as rule
 use Rattle.rules.specs.declared.Window.{Window}
 use Rattle.rules.specs.Boxes.{holds, everywhere, window_box}
@@ -29,7 +30,7 @@ use Rattle.rules.specs.Screen.{frame_at, later, triple_words, triple_of}
 use Rattle.rules.specs.Table.{primitives}
 use Rattle.rules.specs.TextCalls.{table_read, form_refusal, read_refusal, TextRead, table_text, write_refusal, TextWritten}
 use Rattle.rules.specs.TextForm.{Word32, TextForm}
-use Rattle.rules.specs.Told.{Located, Searched, Written, Told, inside, outside, clear, hit, wrote, fine, refused, told_checked, told_located, told_searched, told_written, refused_by}
+use Rattle.rules.specs.Told.{Located, Written, Told, inside, outside, clear, hit, wrote, fine, refused, told_checked, told_located, told_searched, told_written, refused_by}
 use Rattle.rules.specs.Tree.{tree_of}
 use Rattle.rules.specs.TreeCalls.{point_refusal, TableChecked, tree_point_refusal, TreeLocated, tree_search_refusal, TreeSearched}
 use Rattle.rules.specs.TreeRows.{form_in}

@@ -1,7 +1,7 @@
 -- Answers that look right and are not. Each theorem speaks of one good input, at which the rules do not refuse the call, and of every answer that
 -- could go with the impostor's error there: none of them meets the call's record. Beside each input stands the outcome that does (`right-..`).
 -- Assumes nothing.
-use Rattle.std.specs.Prelude.{Ok, Err, Some, None, false}
+use Rattle.std.specs.Prelude.{Ok, Err, false}
 use Prim.Native.Nat.{ℕ, ◌+◌, ◌^◌, ◌≤◌, ◌<◌}
 use native.Mathlib.Omega.{arith}
 use mathlib.Core.Bool.{true}
@@ -21,6 +21,8 @@ use Rattle.rules.specs.declared.Primitive.{Primitive}
 use Rattle.rules.specs.declared.Product.{Product}
 use Rattle.rules.specs.declared.Rectangle.{Rectangle}
 use Rattle.rules.specs.declared.Refusal.{Refusal}
+use Rattle.rules.specs.declared.Searched.{Searched}
+use Rattle.rules.specs.declared.Searched.TheVariants as searched
 use Rattle.rules.specs.declared.Window.{Window}
 use Rattle.rules.specs.Ranges.{columns, codes}
 use Rattle.rules.specs.Table.{primitives}
@@ -51,7 +53,7 @@ use Rattle.rules.proofs.Settled.{checked_settled, tree_located_settled, tree_sea
 use Rattle.rules.proofs.Settled.{list_located_settled, list_searched_settled, screen_searched_settled, picture_drawn_settled}
 use Rattle.rules.proofs.Settled.{text_read_settled, text_written_settled, tree_rewritten_settled, over_whole}
 use Rattle.rules.proofs.Rewriting.{q_rows, rows_of_q, still_fits_finished}
-use Rattle.rules.specs.Told.{Searched, Written}
+use Rattle.rules.specs.Told.{Written}
 
 -- ---- the right outcomes at one input of each call: zone Q in columns -100..100, and the text of one box
 
@@ -75,19 +77,6 @@ three = nought ∷ nought ∷ nought ∷ []
 abbrev from19 : Place
 from19 = record { first = pos 19; frame = nought }
 
-abbrev hit_at : ℕ → ℕ → Searched
-hit_at first count = Ok (Some (record { first = first; count = count }))
-
--- the count that an answer names
-counted : Searched → ℕ
-counted (Ok None) = 0
-counted (Ok (Some found)) = found.count
-counted (Err r) = 0
-
-hits_count : {f g c d : ℕ} → hit_at f c ≡ hit_at g d → c ≡ d
-unfolding counted
-hits_count e = ap counted e
-
 pub right_check : TableChecked q (Ok tt)
 unfolding table_refusal from all_of count_if find_if first_of flat_map
 right_check = record { answer = refl }
@@ -96,7 +85,7 @@ pub right_tree_point : TreeLocated q (at 8 0) (Ok true)
 unfolding table_refusal trees inside from all_of count_if find_if first_of flat_map
 right_tree_point = record { answer = refl }
 
-pub right_tree_search : TreeSearched q three from19 (hit_at 1 2)
+pub right_tree_search : TreeSearched q three from19 (searched.Hit 1 2)
 unfolding table_refusal trees inside first_inside inside_count from all_of any_of count_if find_if first_of flat_map
 right_tree_search = record { answer = refl }
 
@@ -108,7 +97,7 @@ pub right_list_point : ListLocated q q_list (at 8 0) (Ok true)
 unfolding table_refusal list_refusal accept_refusal inside_product inside_list from all_of any_of count_if find_if first_of selected flat_map
 right_list_point = record { answer = refl }
 
-pub right_list_search : ListSearched q q_list three from19 (hit_at 1 2)
+pub right_list_search : ListSearched q q_list three from19 (searched.Hit 1 2)
 unfolding table_refusal list_refusal accept_refusal inside_product inside_list first_inside inside_count from all_of any_of count_if find_if first_of selected flat_map
 right_list_search = record { answer = refl }
 
@@ -182,7 +171,7 @@ refuses_tables why h = let e = checked_settled h right_check in never (cc)
 pub refuses_tree_points : (why : Refusal) → TreeLocated q (at 8 0) (Err why) → ⊥
 refuses_tree_points why h = let e = tree_located_settled h right_tree_point in never (cc)
 
-pub refuses_tree_searches : (why : Refusal) → TreeSearched q three from19 (Err why) → ⊥
+pub refuses_tree_searches : (why : Refusal) → TreeSearched q three from19 (searched.Refused why) → ⊥
 refuses_tree_searches why h = let e = tree_searched_settled h right_tree_search in never (cc)
 
 pub refuses_lists : (why : Refusal) {after : List ℕ} → ListMade q window room after (Err why) → ⊥
@@ -191,7 +180,7 @@ refuses_lists why h = let e = (list_made_settled h right_make).0 in never (cc)
 pub refuses_list_points : (why : Refusal) → ListLocated q q_list (at 8 0) (Err why) → ⊥
 refuses_list_points why h = let e = list_located_settled h right_list_point in never (cc)
 
-pub refuses_list_searches : (why : Refusal) → ListSearched q q_list three from19 (Err why) → ⊥
+pub refuses_list_searches : (why : Refusal) → ListSearched q q_list three from19 (searched.Refused why) → ⊥
 refuses_list_searches why h = let e = list_searched_settled h right_list_search in never (cc)
 
 pub refuses_screens : (why : Refusal) {after : List ℕ} → From (negsuc 0) after (Err why) → ⊥
@@ -208,10 +197,10 @@ refuses_to_write_text why h = let e = (text_written_settled h right_write).0 in 
 
 -- ---- one that always says clear, or outside
 
-pub tree_always_clear : TreeSearched q three from19 (Ok None) → ⊥
+pub tree_always_clear : TreeSearched q three from19 searched.Clear → ⊥
 tree_always_clear h = let e = tree_searched_settled h right_tree_search in never (cc)
 
-pub list_always_clear : ListSearched q q_list three from19 (Ok None) → ⊥
+pub list_always_clear : ListSearched q q_list three from19 searched.Clear → ⊥
 list_always_clear h = let e = list_searched_settled h right_list_search in never (cc)
 
 pub tree_always_outside : TreeLocated q (at 8 0) (Ok false) → ⊥
@@ -226,11 +215,11 @@ list_always_outside h = let e = list_located_settled h right_list_point in never
 abbrev leaving : List ℤ
 leaving = nought ∷ pos 50 ∷ pos 50 ∷ []
 
-pub right_tree_leaving : TreeSearched q leaving from19 (Ok None)
+pub right_tree_leaving : TreeSearched q leaving from19 searched.Clear
 unfolding table_refusal trees inside first_inside inside_count from all_of any_of count_if find_if first_of flat_map
 right_tree_leaving = record { answer = refl }
 
-pub right_list_leaving : ListSearched q q_list leaving from19 (Ok None)
+pub right_list_leaving : ListSearched q q_list leaving from19 searched.Clear
 unfolding table_refusal list_refusal accept_refusal inside_product inside_list first_inside inside_count from all_of any_of count_if find_if first_of selected flat_map
 right_list_leaving = record { answer = refl }
 
@@ -252,32 +241,32 @@ list_first_sample_only r h g =
 abbrev crossed : List ℤ
 crossed = negsuc 2 ∷ pos 3 ∷ negsuc 2 ∷ []
 
-pub right_tree_crossed : TreeSearched q crossed from19 (hit_at 1 2)
+pub right_tree_crossed : TreeSearched q crossed from19 (searched.Hit 1 2)
 unfolding table_refusal trees inside first_inside inside_count from all_of any_of count_if find_if first_of flat_map
 right_tree_crossed = record { answer = refl }
 
-pub right_list_crossed : ListSearched q q_list crossed from19 (hit_at 1 2)
+pub right_list_crossed : ListSearched q q_list crossed from19 (searched.Hit 1 2)
 unfolding table_refusal list_refusal accept_refusal inside_product inside_list first_inside inside_count from all_of any_of count_if find_if first_of selected flat_map
 right_list_crossed = record { answer = refl }
 
-pub tree_samples_only : TreeSearched q crossed from19 (Ok None) → ⊥
+pub tree_samples_only : TreeSearched q crossed from19 searched.Clear → ⊥
 tree_samples_only h = let e = tree_searched_settled h right_tree_crossed in never (cc)
 
-pub list_samples_only : ListSearched q q_list crossed from19 (Ok None) → ⊥
+pub list_samples_only : ListSearched q q_list crossed from19 searched.Clear → ⊥
 list_samples_only h = let e = list_searched_settled h right_list_crossed in never (cc)
 
 -- edges of one direction alone are filled: one of the two columns is missed
-pub tree_one_direction : (first : ℕ) → TreeSearched q crossed from19 (hit_at first 1) → ⊥
-tree_one_direction first h = let e = tree_searched_settled h right_tree_crossed in let n : ◌≡◌ {A = ℕ} 1 2 = hits_count {f = first} {g = 1} e in omega arith
+pub tree_one_direction : (first : ℕ) → TreeSearched q crossed from19 (searched.Hit first 1) → ⊥
+tree_one_direction first h = let e = tree_searched_settled h right_tree_crossed in let n : ◌≡◌ {A = ℕ} 1 2 = cc in omega arith
 
-pub list_one_direction : (first : ℕ) → ListSearched q q_list crossed from19 (hit_at first 1) → ⊥
-list_one_direction first h = let e = list_searched_settled h right_list_crossed in let n : ◌≡◌ {A = ℕ} 1 2 = hits_count {f = first} {g = 1} e in omega arith
+pub list_one_direction : (first : ℕ) → ListSearched q q_list crossed from19 (searched.Hit first 1) → ⊥
+list_one_direction first h = let e = list_searched_settled h right_list_crossed in let n : ◌≡◌ {A = ℕ} 1 2 = cc in omega arith
 
 -- the code of the sample before is counted: in `leaving` it is the only one inside
-pub tree_earlier_code_counted : (first count : ℕ) → TreeSearched q leaving from19 (hit_at first count) → ⊥
+pub tree_earlier_code_counted : (first count : ℕ) → TreeSearched q leaving from19 (searched.Hit first count) → ⊥
 tree_earlier_code_counted first count h = let e = tree_searched_settled h right_tree_leaving in never (cc)
 
-pub list_earlier_code_counted : (first count : ℕ) → ListSearched q q_list leaving from19 (hit_at first count) → ⊥
+pub list_earlier_code_counted : (first count : ℕ) → ListSearched q q_list leaving from19 (searched.Hit first count) → ⊥
 list_earlier_code_counted first count h = let e = list_searched_settled h right_list_leaving in never (cc)
 
 -- sample 0 is filled, as from the foot of the screen: one sample stands in column 20, over Q, and none before it
@@ -287,27 +276,27 @@ from20 = record { first = pos 20; frame = nought }
 abbrev alone : List ℤ
 alone = pos 5 ∷ []
 
-pub right_tree_alone : TreeSearched q alone from20 (Ok None)
+pub right_tree_alone : TreeSearched q alone from20 searched.Clear
 unfolding table_refusal trees inside first_inside inside_count from all_of any_of count_if find_if first_of flat_map
 right_tree_alone = record { answer = refl }
 
-pub right_list_alone : ListSearched q q_list alone from20 (Ok None)
+pub right_list_alone : ListSearched q q_list alone from20 searched.Clear
 unfolding table_refusal list_refusal accept_refusal inside_product inside_list first_inside inside_count from all_of any_of count_if find_if first_of selected flat_map
 right_list_alone = record { answer = refl }
 
-pub tree_sample_0_filled : (first count : ℕ) → TreeSearched q alone from20 (hit_at first count) → ⊥
+pub tree_sample_0_filled : (first count : ℕ) → TreeSearched q alone from20 (searched.Hit first count) → ⊥
 tree_sample_0_filled first count h = let e = tree_searched_settled h right_tree_alone in never (cc)
 
-pub list_sample_0_filled : (first count : ℕ) → ListSearched q q_list alone from20 (hit_at first count) → ⊥
+pub list_sample_0_filled : (first count : ℕ) → ListSearched q q_list alone from20 (searched.Hit first count) → ⊥
 list_sample_0_filled first count h = let e = list_searched_settled h right_list_alone in never (cc)
 
 -- ---- one that invents the number of inside samples: where there are two, no other number does
 
-pub tree_invented_count : (first count : ℕ) → (count ≡ 2 → ⊥) → TreeSearched q three from19 (hit_at first count) → ⊥
-tree_invented_count first count other h = let e = tree_searched_settled h right_tree_search in other (hits_count {f = first} {g = 1} e)
+pub tree_invented_count : (first count : ℕ) → (count ≡ 2 → ⊥) → TreeSearched q three from19 (searched.Hit first count) → ⊥
+tree_invented_count first count other h = let e = tree_searched_settled h right_tree_search in other (cc)
 
-pub list_invented_count : (first count : ℕ) → (count ≡ 2 → ⊥) → ListSearched q q_list three from19 (hit_at first count) → ⊥
-list_invented_count first count other h = let e = list_searched_settled h right_list_search in other (hits_count {f = first} {g = 1} e)
+pub list_invented_count : (first count : ℕ) → (count ≡ 2 → ⊥) → ListSearched q q_list three from19 (searched.Hit first count) → ⊥
+list_invented_count first count other h = let e = list_searched_settled h right_list_search in other (cc)
 
 -- ---- one that leaves the buffer untouched, whatever it answers
 

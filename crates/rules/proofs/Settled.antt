@@ -16,6 +16,7 @@ use Rattle.rules.specs.declared.Point.{Point}
 use Rattle.rules.specs.declared.Rectangle.{Rectangle}
 use Rattle.rules.specs.declared.Refusal.{Refusal}
 use Rattle.rules.specs.declared.Rule.TheVariants as rule
+use Rattle.rules.specs.declared.Searched.{Searched}
 use Rattle.rules.specs.declared.Window.{Window}
 use Rattle.rules.specs.Table.{most_rows, primitives}
 use Rattle.rules.specs.Verdict.{table_refusal}
@@ -23,7 +24,7 @@ use Rattle.rules.specs.Refusals.{room_refusal}
 use Rattle.rules.specs.Text.{TextRow, text_of, table_of}
 use Rattle.rules.specs.TextForm.{lines_of, RightRow, FirstFault, no_header, no_such_row, no_end}
 use Rattle.rules.specs.TextForm.{TextForm, too_long, faulty, spelt}
-use Rattle.rules.specs.Told.{Checked, Located, Searched, Written, refused, wrote, tell}
+use Rattle.rules.specs.Told.{Checked, Located, Written, refused, wrote, tell}
 use Rattle.rules.specs.Outcome.{over, leave}
 use Rattle.rules.specs.Products.{products}
 use Rattle.rules.specs.Tree.{tree_of}

@@ -1,8 +1,7 @@
 -- An answer is what it tells: no two answers tell the same, in three words too, and the answer of a call that writes tells what it had to refuse.
 -- Assumes nothing.
-use Rattle.std.specs.Prelude.{Ok, Err, None, true, false}
 use Prim.Native.Nat.{ℕ, ◌≤◌}
-use Rattle.std.specs.Prelude.{true, false, Ok, Err, Some, None}
+use Rattle.std.specs.Prelude.{true, false, Ok, Err}
 use native.Mathlib.Omega.{arith}
 use mathlib.Core.List.{List, ◌∷◌, head-eq_of_cons-eq, tail-eq_of_cons-eq}
 use mathlib.Core.Option.{Option, none, some}
@@ -10,9 +9,11 @@ use mathlib.Core.Path.{◌≡◌, refl, sym, ap, ◌∙◌}
 use Rattle.rules.specs.declared.Refusal.{Refusal}
 use Rattle.rules.specs.declared.Rule.{Rule}
 use Rattle.rules.specs.declared.Rule.TheVariants as rule
+use Rattle.rules.specs.declared.Searched.{Searched}
+use Rattle.rules.specs.declared.Searched.TheVariants as searched
 use Rattle.rules.specs.Rules.{number_of, rule_of}
 use Rattle.rules.specs.Screen.{triple_of}
-use Rattle.rules.specs.Told.{Checked, Located, Searched, Written, Told, wrote, fine, refused, tell, told_checked, told_located, told_searched, told_written}
+use Rattle.rules.specs.Told.{Checked, Located, Written, Told, wrote, fine, refused, tell, told_checked, told_located, told_searched, told_written}
 
 tale : {a b : Told} → a ≡ b → a.tale ≡ b.tale
 tale e = ap (λ (t : Told). t.tale) e
@@ -80,19 +81,15 @@ located_once (Err p) (Ok false) e = let t = tale e in cc
 located_once (Err p) (Err q) e = ap Err (refusal_once p q e)
 
 pub searched_once : (a b : Searched) → told_searched a ≡ told_searched b → a ≡ b
-searched_once (Ok None) (Ok None) e = refl
-searched_once (Ok None) (Ok (Some h)) e = let t = tale e in cc
-searched_once (Ok None) (Err q) e = let t = tale e in cc
-searched_once (Ok (Some g)) (Ok None) e = let t = tale e in cc
-searched_once (Ok (Some g)) (Ok (Some h)) e =
-    let t = tale e in
-    let f : g.first ≡ h.first = cc in
-    let c : g.count ≡ h.count = cc in
-    λ i. Ok (Some (record { first = f i; count = c i }))
-searched_once (Ok (Some g)) (Err q) e = let t = tale e in cc
-searched_once (Err p) (Ok None) e = let t = tale e in cc
-searched_once (Err p) (Ok (Some h)) e = let t = tale e in cc
-searched_once (Err p) (Err q) e = ap Err (refusal_once p q e)
+searched_once searched.Clear searched.Clear e = refl
+searched_once searched.Clear (searched.Hit g d) e = let t = tale e in cc
+searched_once searched.Clear (searched.Refused q) e = let t = tale e in cc
+searched_once (searched.Hit f c) searched.Clear e = let t = tale e in cc
+searched_once (searched.Hit f c) (searched.Hit g d) e = let t = tale e in cc
+searched_once (searched.Hit f c) (searched.Refused q) e = let t = tale e in cc
+searched_once (searched.Refused p) searched.Clear e = let t = tale e in cc
+searched_once (searched.Refused p) (searched.Hit g d) e = let t = tale e in cc
+searched_once (searched.Refused p) (searched.Refused q) e = ap searched.Refused (refusal_once p q e)
 
 -- the words of two answers, from the first on
 module _ {a b : ℕ} {xs ys : List ℕ} (e : a ∷ xs ≡ b ∷ ys) where
@@ -103,17 +100,17 @@ module _ {a b : ℕ} {xs ys : List ℕ} (e : a ∷ xs ≡ b ∷ ys) where
   after = tail-eq_of_cons-eq e
 
 pub triple_once : (a b : Searched) → triple_of (told_searched a) ≡ triple_of (told_searched b) → a ≡ b
-triple_once (Ok None) (Ok None) e = refl
-triple_once (Ok None) (Ok (Some h)) e = absurd (omega (arith, here e))
-triple_once (Ok None) (Err q) e = absurd (omega (arith, here e))
-triple_once (Ok (Some g)) (Ok None) e = absurd (omega (arith, here e))
-triple_once (Ok (Some g)) (Ok (Some h)) e = λ i. Ok (Some (record { first = here (after e) i; count = here (after (after e)) i }))
-triple_once (Ok (Some g)) (Err q) e = absurd (omega (arith, here e))
-triple_once (Err p) (Ok None) e = absurd (omega (arith, here e))
-triple_once (Err p) (Ok (Some h)) e = absurd (omega (arith, here e))
-triple_once (Err p) (Err q) e =
+triple_once searched.Clear searched.Clear e = refl
+triple_once searched.Clear (searched.Hit g d) e = absurd (omega (arith, here e))
+triple_once searched.Clear (searched.Refused q) e = absurd (omega (arith, here e))
+triple_once (searched.Hit f c) searched.Clear e = absurd (omega (arith, here e))
+triple_once (searched.Hit f c) (searched.Hit g d) e = λ i. searched.Hit (here (after e) i) (here (after (after e)) i)
+triple_once (searched.Hit f c) (searched.Refused q) e = absurd (omega (arith, here e))
+triple_once (searched.Refused p) searched.Clear e = absurd (omega (arith, here e))
+triple_once (searched.Refused p) (searched.Hit g d) e = absurd (omega (arith, here e))
+triple_once (searched.Refused p) (searched.Refused q) e =
     let n : p.rule ≡ q.rule = rule_once p.rule q.rule (omega (arith, here e)) in
-    λ i. Err (record { rule = n i; value = here (after e) i })
+    λ i. searched.Refused (record { rule = n i; value = here (after e) i })
 
 pub written_once : (a b : Written) → told_written a ≡ told_written b → a ≡ b
 written_once (Ok m) (Ok n) e = let t = tale e in cc

@@ -10,6 +10,7 @@ use Rattle.rules.specs.declared.Place.{Place}
 use Rattle.rules.specs.declared.Point.{Point}
 use Rattle.rules.specs.declared.Rectangle.{Rectangle}
 use Rattle.rules.specs.declared.Refusal.{Refusal}
+use Rattle.rules.specs.declared.Searched.{Searched}
 use Rattle.rules.specs.declared.Window.{Window}
 use Rattle.rules.specs.declared.Rule.TheVariants as rule
 use Rattle.rules.specs.Ranges.{within, range}
@@ -23,7 +24,7 @@ use Rattle.rules.specs.ListFaults.{list_refusal, primitives_refusal}
 use Rattle.rules.specs.ListInside.{inside_list}
 use Rattle.rules.specs.Frame.{frame_refusal, leaves_refusal, first_inside, inside_count}
 use Rattle.rules.specs.Refusals.{refuse_unless, room_refusal}
-use Rattle.rules.specs.Told.{Located, Searched, Written, Told, wrote, tell, told_located, told_searched, told_written}
+use Rattle.rules.specs.Told.{Located, Written, Told, wrote, tell, told_located, told_searched, told_written}
 use Rattle.rules.specs.Screen.{frames_refusal, frame_at, later, triple_words, triple_of}
 use Rattle.rules.specs.Waterfall.{picture_words, rectangle_refusal, picture}
 use Rattle.rules.specs.Outcome.{leave}

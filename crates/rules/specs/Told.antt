@@ -4,6 +4,8 @@ use Rattle.std.specs.Prelude as prelude
 use Rattle.std.proofs.Math.Option.{Option, none, some}
 use Rattle.rules.specs.declared.Hit.{Hit}
 use Rattle.rules.specs.declared.Refusal.{Refusal}
+use Rattle.rules.specs.declared.Searched.{Searched}
+use Rattle.rules.specs.declared.Searched.TheVariants as searched
 use Rattle.rules.specs.Rules.{number_of}
 
 -- what the check of a table answers
@@ -14,9 +16,11 @@ Checked = Result ⊤ Refusal
 abbrev pub Located : Type 0
 Located = Result Bool Refusal
 
--- what the search of a frame answers: the first inside sample and how many there are, or that there is none
-abbrev pub Searched : Type 0
-Searched = Result (prelude.Option Hit) Refusal
+-- what the search of a frame answers: a hit, with the first inside sample and how many there are, or that there is none
+abbrev pub searched_of : Result (prelude.Option Hit) Refusal → Searched
+searched_of (Ok None) = searched.Clear
+searched_of (Ok (Some found)) = searched.Hit found.first found.count
+searched_of (Err r) = searched.Refused r
 
 -- what a call that writes answers: how many words or bytes it wrote
 abbrev pub Written : Type 0
@@ -70,7 +74,9 @@ abbrev pub told_located : Located → Told
 told_located = told_by located_tale
 
 abbrev pub told_searched : Searched → Told
-told_searched = told_by searched_tale
+told_searched searched.Clear = fine clear
+told_searched (searched.Hit first count) = fine (hit first count)
+told_searched (searched.Refused r) = refused r
 
 abbrev pub told_written : Written → Told
 told_written = told_by wrote

@@ -6,6 +6,7 @@ use Rattle.rules.specs.declared.Place.{Place}
 use Rattle.rules.specs.declared.Point.{Point}
 use Rattle.rules.specs.declared.Refusal.{Refusal}
 use Rattle.rules.specs.declared.Rule.TheVariants as rule
+use Rattle.rules.specs.declared.Searched.{Searched}
 use Rattle.rules.specs.Ranges.{within}
 use Rattle.rules.specs.Boxes.{Box, everywhere}
 use Rattle.rules.specs.Verdict.{table_refusal}
@@ -13,7 +14,7 @@ use Rattle.rules.specs.Tree.{tree_of}
 use Rattle.rules.specs.Inside.{inside}
 use Rattle.rules.specs.Frame.{frame_refusal, first_inside, inside_count}
 use Rattle.rules.specs.Refusals.{refuse_unless}
-use Rattle.rules.specs.Told.{Checked, Located, Searched, Tale, sound, inside as stands_inside, outside, clear, hit, tell, told_checked, told_located, told_searched}
+use Rattle.rules.specs.Told.{Checked, Located, Tale, sound, inside as stands_inside, outside, clear, hit, tell, told_checked, told_located, told_searched}
 
 -- the first axis on which a point is out, from whether it is in on each (10)
 abbrev pub axis_refusal : Bool → Bool → Bool → Option Refusal

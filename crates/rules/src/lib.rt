@@ -9,6 +9,7 @@ ghost use Rattle.rules.specs.Inside.{bounds};
 ghost use Rattle.rules.specs.Ranges.{within, range};
 ghost use Rattle.rules.specs.Kinds.{is_primitive, kind_number, named_words, Names};
 ghost use Rattle.rules.specs.Rules.{number_of};
+ghost use Rattle.rules.specs.Told.{searched_of};
 
 // The axes: sample columns, ADC codes, frame numbers.
 #[derive(Clone, Copy, Debug, PartialEq, Eq)]
@@ -336,4 +337,27 @@ impl Refusal {
 pub struct Hit {
     pub first: usize,
     pub count: usize,
+}
+
+// What the search of a frame answers.
+#[derive(Clone, Copy, Debug, PartialEq, Eq)]
+pub enum Searched {
+    Clear,
+    Hit { first: usize, count: usize },
+    Refused(Refusal),
+}
+
+impl From<Result<Option<Hit>, Refusal>> for Searched {
+    ghost from_gives = { λ outcome searched. searched ≡ searched_of outcome };
+
+    fn from(outcome: Result<Option<Hit>, Refusal>) -> Self {
+        match outcome {
+            Ok(None) => Searched::Clear,
+            Ok(Some(hit)) => Searched::Hit {
+                first: hit.first,
+                count: hit.count,
+            },
+            Err(refusal) => Searched::Refused(refusal),
+        }
+    }
 }

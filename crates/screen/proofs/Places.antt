@@ -17,6 +17,7 @@ use Rattle.rules.specs.declared.Rule.TheVariants as rule
 use Rattle.rules.specs.declared.Axis.TheVariants.{Frame}
 use Rattle.rules.specs.declared.Place.{Place}
 use Rattle.rules.specs.declared.Refusal.{Refusal}
+use Rattle.rules.specs.declared.Searched.{Searched}
 use Rattle.rules.specs.Frame.{most_samples, leaves_refusal, first_inside, inside_count}
 use Rattle.rules.specs.ListCalls.{accept_refusal, list_search_told, ListSearched}
 use Rattle.rules.specs.ListInside.{inside_list}
@@ -25,7 +26,7 @@ use Rattle.rules.specs.Ranges.{within, greatest, columns, frames}
 use Rattle.rules.specs.Screen.{most_frames}
 use Rattle.rules.specs.Refusals.{refuse, refuse_if, refuse_unless}
 use Rattle.rules.specs.Table.{primitives}
-use Rattle.rules.specs.Told.{Searched, Tale, Told, tell}
+use Rattle.rules.specs.Told.{Tale, Told, tell}
 use Rattle.rules.specs.TreeCalls.{search_tale}
 use Rattle.screen.specs.Places.{Alike, same, beyond}
 

@@ -15,7 +15,7 @@ ghost use Rattle.screen.specs.Places.{Alike};
 ghost use Rattle.screen.specs.Shape.{shape_refusal};
 ghost use Rattle.screen.specs.Triples.{Small};
 
-use rules::{Hit, Place, Refusal, Rule};
+use rules::{Place, Refusal, Rule, Searched};
 
 // The three words at a position.
 fn put_words(triples: &mut [u32], at: usize, state: u32, value: u32, count: u32)
@@ -35,15 +35,15 @@ fn refused_state(rule: Rule) -> u32
 }
 
 // What the search of a frame answers, in three words.
-fn put_triple(triples: &mut [u32], at: usize, searched: Result<Option<Hit>, Refusal>)
+fn put_triple(triples: &mut [u32], at: usize, searched: Searched)
     requires triple_words_in_bounds { at + triple_words ≤ length triples.old }
     requires small { Small (told_searched searched) }
     ensures { triples.new ≡ sets triples.old at (triple_of (told_searched searched)) }
 {
     match searched {
-        Ok(None) => put_words(triples, at, 0, 0, 0),
-        Ok(Some(hit)) => put_words(triples, at, 1, hit.first as u32, hit.count as u32),
-        Err(refusal) => {
+        Searched::Clear => put_words(triples, at, 0, 0, 0),
+        Searched::Hit { first, count } => put_words(triples, at, 1, first as u32, count as u32),
+        Searched::Refused(refusal) => {
             let state = refused_state(refusal.rule);
             put_words(triples, at, state, refusal.value as u32, 0)
         }
@@ -80,7 +80,7 @@ fn search_frame(
     size: usize,
     j: usize,
     place: Place,
-) -> Result<Option<Hit>, Refusal>
+) -> Searched
     requires accepted { Accepted table.now list.now }
     requires j_lt_most_frames { (j < most_frames) × ((j + 1) * size ≤ length codes.now) }
     ensures { ListSearched table.now list.now (take size (drop (j * size) codes.now)) (later place j) result }

@@ -9,12 +9,13 @@ use lib.ListN.{length}
 use Rattle.rules.specs.declared.Place.{Place}
 use Rattle.rules.specs.declared.Point.{Point}
 use Rattle.rules.specs.declared.Refusal.{Refusal}
+use Rattle.rules.specs.declared.Searched.TheVariants as searched
 use Rattle.rules.specs.Boxes.{everywhere}
 use Rattle.rules.specs.Verdict.{table_refusal}
 use Rattle.rules.specs.Tree.{tree_of}
 use Rattle.rules.specs.Inside.{inside}
 use Rattle.rules.specs.Frame.{frame_refusal, sample_inside, first_inside, inside_count}
-use Rattle.rules.specs.Told.{Tale, fine}
+use Rattle.rules.specs.Told.{Tale, fine, searched_of}
 use Rattle.rules.specs.TreeCalls.{point_refusal, point_tale, search_tale, TreeLocated, TreeSearched}
 use Rattle.laws.proofs.Telling.{point_told, told_now, told_later, told_fine}
 use Rattle.frame.proofs.Tallies.{tally_told}
@@ -41,15 +42,15 @@ module _ (t samples : List ℤ) (place : Place) where
   abbrev tale : Tale
   tale = search_tale (first_inside (inside (tree_of t)) samples place) (inside_count (inside (tree_of t)) samples place)
 
-  pub search_table : {r : Refusal} → table_refusal t ≡ some r → TreeSearched t samples place (Err r)
+  pub search_table : {r : Refusal} → table_refusal t ≡ some r → TreeSearched t samples place (searched.Refused r)
   search_table h = record { answer = told_now (table_refusal t) (frame_refusal samples place ∷ []) tale h }
 
   module _ (h : table_refusal t ≡ none) where
-    pub search_frame : {r : Refusal} → frame_refusal samples place ≡ some r → TreeSearched t samples place (Err r)
+    pub search_frame : {r : Refusal} → frame_refusal samples place ≡ some r → TreeSearched t samples place (searched.Refused r)
     search_frame k = record { answer = told_later (table_refusal t) (frame_refusal samples place ∷ []) tale h (told_now (frame_refusal samples place) [] tale k) }
 
     pub search_fine : frame_refusal samples place ≡ none → {n : Tally} → Tallied (sample_inside (inside (tree_of t)) samples place) (length samples) n
-        → TreeSearched t samples place (Ok n)
+        → TreeSearched t samples place (searched_of (Ok n))
     unfolding first_inside inside_count
     search_fine k {n} tallied = record {
       answer = tally_told n ∙ (λ i. fine (search_tale (tallied.first i) (tallied.count i)))

@@ -7,7 +7,7 @@ ghost use Rattle.rules.specs.RewriteCall.{TreeRewritten};
 ghost use Rattle.rules.specs.TextCalls.{TextRead, TextWritten};
 ghost use Rattle.rules.specs.TreeCalls.{TableChecked, TreeLocated, TreeSearched};
 
-use rules::{Hit, Place, Point, Rectangle, Refusal, Window};
+use rules::{Place, Point, Rectangle, Refusal, Searched, Window};
 
 // Whether a table is sound, or the first rule that it breaks (1 to 5).
 pub fn check_table(table: &[i32]) -> Result<(), Refusal>
@@ -24,7 +24,7 @@ pub fn tree_point(table: &[i32], point: Point) -> Result<bool, Refusal>
 }
 
 // The first inside sample of a frame and how many there are, by the tree. Refusals: the table's; 12 for the frame.
-pub fn tree_search(table: &[i32], samples: &[i16], place: Place) -> Result<Option<Hit>, Refusal>
+pub fn tree_search(table: &[i32], samples: &[i16], place: Place) -> Searched
     ensures { TreeSearched table.now samples.now place result }
 {
     tree::tree_search(table, samples, place)
@@ -48,12 +48,7 @@ pub fn list_point(table: &[i32], list: &[u64], point: Point) -> Result<bool, Ref
 
 // The first inside sample of a frame and how many there are, by a list. Refusals: the table's; 9 and 11 for the list; 12 for the frame; 10 with
 // the first sample out of the list's window.
-pub fn list_search(
-    table: &[i32],
-    list: &[u64],
-    samples: &[i16],
-    place: Place,
-) -> Result<Option<Hit>, Refusal>
+pub fn list_search(table: &[i32], list: &[u64], samples: &[i16], place: Place) -> Searched
     ensures { ListSearched table.now list.now samples.now place result }
 {
     answer::list_search(table, list, samples, place)

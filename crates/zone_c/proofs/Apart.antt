@@ -1,6 +1,6 @@
 -- Nothing is lost on the way to C: from the three numbers C reads the outcome back, so no two outcomes of a call become the same three numbers.
 -- Assumes nothing.
-use Rattle.std.specs.Prelude.{Ok, Err, Some, None, true, false}
+use Rattle.std.specs.Prelude.{Ok, Err, true, false}
 use Prim.Native.Nat.{ℕ, zero, suc, ◌≤◌}
 use native.Mathlib.Omega.{arith}
 use mathlib.Core.List.{List}
@@ -10,13 +10,15 @@ use lib.IntN.{ℤ}
 use Rattle.std.specs.Prelude.{if◌then◌else◌}
 use Rattle.rules.specs.declared.Refusal.{Refusal}
 use Rattle.rules.specs.declared.Rule.{Rule}
+use Rattle.rules.specs.declared.Searched.{Searched}
+use Rattle.rules.specs.declared.Searched.TheVariants as searched
 use Rattle.rules.specs.Rules.{number_of, rule_of}
 use Rattle.rules.proofs.Told.{number_bounds, rule_back}
 use Rattle.rules.specs.declared.Place.{Place}
 use Rattle.rules.specs.declared.Point.{Point}
 use Rattle.rules.specs.declared.Rectangle.{Rectangle}
 use Rattle.rules.specs.declared.Window.{Window}
-use Rattle.rules.specs.Told.{Checked, Located, Searched, Written, Told, refused, told_checked, told_located, told_searched, told_written}
+use Rattle.rules.specs.Told.{Checked, Located, Written, Told, refused, told_checked, told_located, told_searched, told_written}
 use Rattle.rules.specs.TreeCalls.{TableChecked, TreeLocated, TreeSearched}
 use Rattle.rules.specs.ListCalls.{ListMade, ListLocated, ListSearched, ScreenSearched, PictureDrawn}
 use Rattle.rules.specs.RewriteCall.{TreeRewritten}
@@ -49,9 +51,9 @@ located_back (Ok true) l = refl
 located_back (Err q) l = refused_back Err q _
 
 searched_back : (r : Searched) → Possible (told_searched r) → read_searched (answer_of (told_searched r)) ≡ r
-searched_back (Ok None) l = refl
-searched_back (Ok (Some found)) l = not_zero found.count (Ok None) (Ok (Some found)) l.1
-searched_back (Err q) l = refused_back Err q _
+searched_back searched.Clear l = refl
+searched_back (searched.Hit first count) l = not_zero count searched.Clear (searched.Hit first count) l.1
+searched_back (searched.Refused q) l = refused_back searched.Refused q _
 
 written_back : (r : Written) → Possible (told_written r) → read_written (answer_of (told_written r)) ≡ r
 written_back (Ok n) l = refl

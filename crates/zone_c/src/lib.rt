@@ -39,7 +39,7 @@ pub extern "C" fn lampholly_tree_search(
 ) -> Answer
     ensures { Answered told_searched (TreeSearched table.now samples.now (place first frame)) result }
 {
-    answer_c::tell(zone::tree_search(table, samples, Place { first, frame }))
+    answer_c::of_searched(zone::tree_search(table, samples, Place { first, frame }))
 }
 
 // zone::make_list: writes the zone's list for a window.
@@ -75,7 +75,7 @@ pub extern "C" fn lampholly_list_search(
 ) -> Answer
     ensures { Answered told_searched (ListSearched table.now list.now samples.now (place first frame)) result }
 {
-    answer_c::tell(zone::list_search(table, list, samples, Place { first, frame }))
+    answer_c::of_searched(zone::list_search(table, list, samples, Place { first, frame }))
 }
 
 // zone::list_search_frames: three words for each frame of a screenful, by a list.

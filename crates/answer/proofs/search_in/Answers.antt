@@ -5,7 +5,7 @@ use Rattle.rules.specs.declared.Place.{Place}
 use Rattle.rules.specs.Boxes.{Box}
 use Rattle.rules.specs.Frame.{leaves_refusal}
 use Rattle.rules.specs.ListCalls.{ListSearched}
-use Rattle.rules.specs.Told.{Checked}
+use Rattle.rules.specs.Told.{Checked, searched_of}
 use Rattle.laws.specs.Checking.{checked_by}
 use Rattle.laws.proofs.SoundLists.{list_sound}
 use Rattle.laws.proofs.Telling.{went_on, stopped}
@@ -28,7 +28,7 @@ scan-requires c = record { ready = c.requires.accepted; place_value = c.requires
 
 pub returns-in_err-check_leaves : goal.returns-in_err-check_leaves
 returns-in_err-check_leaves c =
-    on_exit (ListSearched c.args.table.now c.args.list.now c.args.samples.now c.args.place) c.from_residual.ensures.1
+    on_exit (λ r. ListSearched c.args.table.now c.args.list.now c.args.samples.now c.args.place (searched_of r)) c.from_residual.ensures.1
     (search_leaves c.args.table.now c.args.list.now c.args.samples.now c.args.place c.requires.accepted c.requires.place_value
     (stopped _ (placed c.window_of.ensures c.args.samples.now c.args.place c.in_err-check_leaves.ensures)))
 

@@ -1,3 +1,4 @@
+use Rattle.rules.specs.Told.{searched_of}
 use Rattle.rules.specs.TreeCalls.{TreeSearched}
 use Rattle.laws.proofs.Soundness.{table_sound}
 use Rattle.laws.proofs.Telling.{went_on, stopped}
@@ -10,7 +11,7 @@ scan-requires c = record { ready = table_sound c.args.table.now c.requires; plac
 
 pub returns-in_err-check_frame : goal.returns-in_err-check_frame
 returns-in_err-check_frame c =
-    on_exit (TreeSearched c.args.table.now c.args.samples.now c.args.place) c.from_residual.ensures.1
+    on_exit (λ r. TreeSearched c.args.table.now c.args.samples.now c.args.place (searched_of r)) c.from_residual.ensures.1
     (search_frame c.args.table.now c.args.samples.now c.args.place c.requires (stopped _ c.in_err-check_frame.ensures))
 
 pub returns : goal.returns

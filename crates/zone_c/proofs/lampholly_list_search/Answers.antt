@@ -7,4 +7,4 @@ pub returns : goal.returns
 returns c =
     let s = c.args in
     answered (ListSearched s.table.now s.list.now s.samples.now) (same_place (search rules) (search rules))
-    c.list_search.ensures c.tell.ensures
+    c.list_search.ensures c.of_searched.ensures

@@ -7,4 +7,4 @@ pub returns : goal.returns
 returns c =
     let s = c.args in
     answered (TreeSearched s.table.now s.samples.now) (same_place (search rules) (search rules))
-    c.tree_search.ensures c.tell.ensures
+    c.tree_search.ensures c.of_searched.ensures
