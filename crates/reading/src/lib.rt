@@ -34,7 +34,10 @@ fn read_rows(text: &[u8], start: usize, table: &mut [i32], rows: usize) -> Resul
     let mut at = start;
     for row in 0..rows {
         let line = piece::read_line(text, at, &mut table[row * rules::ROW_WORDS..]);
-        at = line.ok_or(FaultyLine(row + 2))?;
+        let Some(next) = line else {
+            return Err(FaultyLine(row + 2));
+        };
+        at = next;
     }
     if at < text.len() {
         return Err(FaultyLine(rows + 2));
