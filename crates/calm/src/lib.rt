@@ -2,14 +2,14 @@
 
 #![tactic(auto)]
 
-ghost use Rattle.std.specs.Prelude.{◌≤◌, ◌<◌, true, ◌≡◌, MatchOption};
+ghost use Rattle.std.specs.Prelude.{◌≤◌, ◌<◌, true, ◌≡◌};
 ghost use Rattle.rules.specs.declared.Axis.TheVariants.{Frame};
 ghost use Rattle.rules.specs.Boxes.{holds, everywhere};
 ghost use Rattle.rules.specs.Inside.{bounds};
 ghost use Rattle.rules.specs.ListWords.{raised};
 ghost use Rattle.laws.specs.Sound.{solid_right};
 ghost use Rattle.span.specs.Along.{places};
-ghost use Rattle.calm.specs.Calms.{edges_of, Ranged, Boxed, In, Narrowed, NarrowedBy};
+ghost use Rattle.calm.specs.Calms.{edges_of, Ranged, In, Narrowed, NarrowedBy};
 
 use rules::{BoxShape, Point, Primitive};
 use span::Stretch;
@@ -30,44 +30,34 @@ pub struct Edges {
     pub margin: u64,
 }
 
-// The rectangle, narrowed to where a primitive has nothing, if the place is beside its edges.
-fn narrow_beside(e: Edges, x: u64, v: u64, r: Rect) -> Option<Rect>
+// The rectangle, narrowed to where the primitive's answer does not change.
+fn narrow(e: Edges, x: u64, v: u64, r: Rect) -> Rect
     requires here { In x v r }
     requires below_places { (x < places) × ((v < places) × (e.codes.hi < places)) }
-    ensures { MatchOption result (Boxed e x v) (Narrowed e x v r) }
-{
-    if e.codes.hi < v {
-        return Some(Rect {
-            floor: r.floor.max(e.codes.hi + 1),
-            ..r
-        });
-    }
-    if v < e.codes.lo {
-        return Some(Rect {
-            roof: r.roof.min(e.codes.lo - 1),
-            ..r
-        });
-    }
-    if e.columns.hi < x {
-        return Some(r);
-    }
-    if x < e.columns.lo {
-        return Some(Rect {
-            until: r.until.min(e.columns.lo - 1),
-            ..r
-        });
-    }
-    None
-}
-
-// The rectangle, narrowed to where a primitive's answer stays as at a place between its edges.
-fn narrow_within(e: Edges, x: u64, v: u64, r: Rect) -> Rect
-    requires here { In x v r }
-    requires boxed { Boxed e x v }
-    requires below_places { (x < places) × (v < places) }
     requires margin_bound { e.margin ≤ places }
     ensures { Narrowed e x v r result }
 {
+    if e.codes.hi < v {
+        return Rect {
+            floor: r.floor.max(e.codes.hi + 1),
+            ..r
+        };
+    }
+    if v < e.codes.lo {
+        return Rect {
+            roof: r.roof.min(e.codes.lo - 1),
+            ..r
+        };
+    }
+    if e.columns.hi < x {
+        return r;
+    }
+    if x < e.columns.lo {
+        return Rect {
+            until: r.until.min(e.columns.lo - 1),
+            ..r
+        };
+    }
     Rect {
         until: r.until.min(e.columns.hi.min(x + e.margin)),
         floor: r.floor.max(e.codes.lo.max(v.saturating_sub(e.margin))),
@@ -94,14 +84,10 @@ pub fn narrow_by(s: Primitive, p: Point, r: Rect) -> Rect
     ensures { NarrowedBy s p r result }
 {
     let b = solid::box_of(s);
+    // before the frame is asked for, so that a kind's box and margin are worked out in one go
+    let e = edges_of(b, margin::margin(s, p));
     if !solid::frames(b).contains(p.z) {
         return r;
     }
-    let x = span::place_of(p.x);
-    let v = span::place_of(p.y);
-    if let Some(beside) = narrow_beside(edges_of(b, 0), x, v, r) {
-        return beside;
-    }
-    // asked here alone: a point beside the edges needs no margin, and most are
-    narrow_within(edges_of(b, margin::margin(s, p)), x, v, r)
+    narrow(e, span::place_of(p.x), span::place_of(p.y), r)
 }

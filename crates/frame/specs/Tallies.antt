@@ -1,5 +1,5 @@
 -- Columns by their two ends; and a running tally of inside samples: the first of them, and how many.
-use Rattle.std.specs.Prelude.{ℕ, ◌+◌, ◌-◌, Bool, true, false, ◌&&◌, ◌≡◌, ℤ, pos, ◌+ℤ◌, Some, None}
+use Rattle.std.specs.Prelude.{ℕ, ◌+◌, ◌-◌, Bool, true, false, ◌&&◌, ◌≡◌, ℤ, pos, ◌+ℤ◌, Some, None, eqb, if◌then◌else◌}
 use Rattle.std.specs.Prelude as prelude
 use Rattle.std.proofs.Math.Option.{Option, none, some}
 use Rattle.std.specs.Int.Signed.{le_z}
@@ -22,6 +22,10 @@ seen (Some found) = some found.first
 abbrev pub seen_count : Tally → ℕ
 seen_count None = 0
 seen_count (Some found) = found.count
+
+-- what is found by two numbers: nothing while the count is 0
+abbrev pub found_in : Hit → Tally
+found_in found = if eqb found.count 0 then None else Some found
 
 -- one sample more
 abbrev pub stepped : Tally → ℕ → Bool → Tally

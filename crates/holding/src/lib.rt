@@ -29,10 +29,15 @@ fn hold_row(table: &[i32], row: usize, p: Point, h: Held) -> Held
     ensures { Holding (primitives_before table.now (row + 1)) p result }
 {
     match table::primitive_at(table, row) {
-        Some(s) => Held {
-            found: reach::added(h.found, solid::in_solid(s, p)),
-            rect: calm::narrow_by(s, p, h.rect),
-        },
+        Some(s) => {
+            // one right after the other, so that the kind is asked once for both
+            let inside = solid::in_solid(s, p);
+            let rect = calm::narrow_by(s, p, h.rect);
+            Held {
+                found: reach::added(h.found, inside),
+                rect,
+            }
+        }
         None => h,
     }
 }

@@ -189,12 +189,12 @@ pub fn scan(asked: Asked, table: &[i32], list: &[u64], samples: &[i16], place: P
         inside: false,
         hit: false,
     };
-    let mut found: Option<Hit> = None;
+    let mut found = Hit { first: 0, count: 0 };
     for k in 0..samples.len() {
         let p = frame::point_at(samples, place, k);
         q = look(asked, table, list, p, before, q, &mut entries);
         found = frame::counted(found, k, q.hit);
         before = code_place(samples, place, k);
     }
-    found
+    frame::found_in(found)
 }

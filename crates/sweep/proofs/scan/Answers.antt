@@ -10,8 +10,8 @@ use Rattle.rules.specs.Frame.{code_at, point_of}
 use Rattle.rules.specs.ListWords.{raised}
 use Rattle.rules.specs.Ranges.{within, columns}
 use Rattle.laws.proofs.Columns.{frame_right}
-use Rattle.frame.proofs.Tallies.{Running, goes_on, ends}
-use Rattle.frame.specs.Tallies.{Tally, stepped}
+use Rattle.frame.proofs.Tallies.{Running, goes_on, ends, count_found}
+use Rattle.frame.specs.Tallies.{Tally, found_in, stepped}
 use Rattle.says.specs.Asking.{inside_by}
 use Rattle.span.specs.Along.{code_point}
 use Rattle.sweep.specs.Sweeps.{fill_places, Known}
@@ -24,7 +24,7 @@ code_place-before-requires-clause-k_in_bounds c = omega (arith, (frame_right c.a
 
 pub counted-found-requires : goal.counted-found-requires
 counted-found-requires c =
-    omega (arith, c.loop-k.invariant.running.few, c.loop-k-test.true, (frame_right c.args.samples.now c.args.place c.requires.place_value).not_over)
+    omega (arith, count_found c.loop-k.found, c.loop-k.invariant.running.few, c.loop-k-test.true, (frame_right c.args.samples.now c.args.place c.requires.place_value).not_over)
 
 pub loop-k-preserved : goal.loop-k-preserved
 loop-k-preserved c =
@@ -40,7 +40,7 @@ loop-k-preserved c =
     let held : Point → ℕ → Bool = λ p before. let r = fill_places before (raised Frame p.y) in any_of (λ v. is_inside (code_point p v)) (rest r.lo (r.hi + 1)) in
     let hit : c.look-q.result.hit ≡ hits k =
     c.look-q.ensures.told ∙ ap (λ (p : Point). held p c.loop-k.before) at.ensures.value ∙ ap (held (point_of place k code)) B.is ∙ sym (sample_places is_inside samples place k B.ranged own) in
-    let next : c.counted-found.result ≡ stepped c.loop-k.found k (hits k) = c.counted-found.ensures ∙ ap (stepped c.loop-k.found k) hit in
+    let next : found_in c.counted-found.result ≡ stepped (found_in c.loop-k.found) k (hits k) = c.counted-found.ensures ∙ ap (stepped (found_in c.loop-k.found) k) hit in
     let same : k ≡ (k + 1) - 1 = omega arith in
     let last : code ≡ code_at samples ((k + 1) - 1) = ap (code_at samples) same in
     record {
@@ -51,4 +51,4 @@ loop-k-preserved c =
 
 pub returns : goal.returns
 returns c =
-    ends (test c.args.asked c.args.table.now c.args.list.now c.args.samples.now c.args.place) c.loop-k-test.false c.loop-k.invariant.running
+    rw c.found_in.ensures (ends (test c.args.asked c.args.table.now c.args.list.now c.args.samples.now c.args.place) c.loop-k-test.false c.loop-k.invariant.running)

@@ -9,7 +9,7 @@ use Rattle.rules.specs.declared.Place.{Place}
 use Rattle.rules.specs.Frame.{code_at, sample_inside}
 use Rattle.rules.specs.ListWords.{raised}
 use Rattle.rules.specs.Ranges.{within, columns}
-use Rattle.frame.specs.Tallies.{Tally}
+use Rattle.frame.specs.Tallies.{Tally, found_in}
 use Rattle.frame.proofs.Tallies.{Running}
 use Rattle.says.specs.declared.Asked.{Asked}
 use Rattle.says.specs.Asking.{inside_by}
@@ -31,4 +31,4 @@ pub record Inv (asked : Asked) (table : List ℤ) (list : List ℕ) (samples : L
   pub known : Known (inside_by asked table list) place.frame q
 
 abbrev pub invariant-loop-k : goal.invariant-loop-k
-invariant-loop-k l = Inv l.asked l.table l.list l.samples l.place l.before l.q l.found l.k
+invariant-loop-k l = Inv l.asked l.table l.list l.samples l.place l.before l.q (found_in l.found) l.k
