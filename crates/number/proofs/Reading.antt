@@ -11,11 +11,8 @@ use lib.IntN.{ℤ, pos, negsuc}
 use lib.ListN.{length, get_or, take, drop, length-append, length-drop, take-append-drop, get_or-append}
 use lib.Seq.{drop-drop, get_or-drop, take-append_seam}
 use Rattle.std.specs.Bool.{Decides, then_some}
-use Rattle.std.specs.Cmp.Lexicographic.{pointwise}
 use Rattle.std.specs.Int.{from_bool}
 use Rattle.std.specs.Prelude.{Option, None, Some}
-use Rattle.std.proofs.lemmas.Bool.Decides.{Decides-eqb}
-use Rattle.std.proofs.lemmas.Slice.Eq.{slice_eq-Decides}
 use Rattle.ground.proofs.Branches.{false_true}
 use Rattle.ground.proofs.Lists.{all_at}
 use Rattle.rules.specs.Text.{minus, decimal, number_text}
@@ -100,10 +97,8 @@ module _ (text : List ℕ) (at : ℕ) where
   -- ---- the guess, confirmed
 
   pub confirmed : (next : ℕ) {v w : ℤ} {own : List ℕ} {right : Bool} {o : Option (Found ℤ)} → own ≡ number_text v → w ≡ v
-      → right ≡ pointwise eqb (take (next - at) (drop at text)) own → o ≡ then_some right (found w next) → Confirmed text at next v o
-  confirmed next {v} {w} {own} {right} {o} own_is value_is says answer =
-      let part = take (next - at) (drop at text) in
-      go right (slice_eq-Decides Decides-eqb part own right says) answer
+      → Decides right (take (next - at) (drop at text) ≡ own) → o ≡ then_some right (found w next) → Confirmed text at next v o
+  confirmed next {v} {w} {own} {right} {o} own_is value_is says answer = go right says answer
     where
       go : (b : Bool) → Decides b (take (next - at) (drop at text) ≡ own) → o ≡ then_some b (found w next) → Confirmed text at next v o
       go true d e = rw e (d.0 refl ∙ own_is, ap (λ (z : ℤ). found z next) value_is)

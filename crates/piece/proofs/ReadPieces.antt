@@ -10,7 +10,6 @@ use lib.IntN.{ℤ, pos, negsuc, nat_abs}
 use lib.ListN.{length, get_or, take, drop, set, length-append, length-drop, take-append-drop, length-set}
 use lib.Seq.{drop-drop, drop-cons, drop-append_seam, take-suc, take-suc-set, take_all, take-append_seam, sets}
 use borrow.Rule.Slice.PartMut.{put_mid}
-use denote.Enum.Declared.{tag_of}
 use mir.Syntax.{w32}
 use mir.Val.{to_z, of_z}
 use Rattle.std.specs.Bool.{Decides, then_some}
@@ -23,17 +22,15 @@ use Rattle.std.proofs.lemmas.Slice.Eq.{slice_eq-Decides}
 use Rattle.ground.specs.Lists.{All}
 use Rattle.ground.proofs.Branches.{false_true}
 use Rattle.ground.proofs.Lists.{all_append, all_at, flat_map_append}
-use Rattle.rules.specs.contracts.Kind.{the_type}
 use Rattle.rules.specs.declared.Kind.{Kind}
 use Rattle.rules.specs.declared.Kind.TheVariants.{Box, Wedge, Drum, Union, Inter, Diff, Triangle}
 use Rattle.rules.specs.Kinds.{kind_number, named_words}
 use Rattle.rules.specs.Text.{tab, line_feed, number_text, zone_name, kind_name, header_line, field_text, line_of}
 use Rattle.rules.specs.TextForm.{Word32, RightRow}
-use Rattle.rules.proofs.Lines.{name_once}
 use Rattle.number.specs.declared.Found.{Found}
 use Rattle.number.specs.Reading.{Ended, found, ReadsNumber}
 use Rattle.number.proofs.Writing.{part_written}
-use Rattle.piece.specs.Pieces.{Stood, Missing, There, Any, ReadsBytes, ReadsField, Fields, ReadsLine, RightCount}
+use Rattle.piece.specs.Pieces.{Stood, Missing, There, Any, ReadsBytes, TriesName, ReadsField, Fields, ReadsLine, RightCount}
 
 -- a line: something that begins it, something after that, and the line feed
 module _ {A B : Type 0} where
@@ -134,31 +131,18 @@ module _ (text : List ℕ) (at : ℕ) where
 
   -- ---- a kind's name
 
-  pub named : {k : Kind} {next : ℕ} → Bytes (kind_name k) text at next → There Any kind_name Any text at k next
-  named {k} {next} t = record {
-    proper = tt;
+  pub not_named : (kind : Kind) → NoBytes (kind_name kind) text at → TriesName text at kind None
+  not_named kind m = record { none = λ k rest p f e. m.none tt rest tt tt (e ∙ ap (λ (j : Kind). kind_name j ++ rest) p) }
+
+  pub is_named : (kind : Kind) {next : ℕ} → Bytes (kind_name kind) text at next → TriesName text at kind (Some (found kind next))
+  is_named kind t = record {
+    proper = refl;
     stood = t.stood;
-    only = λ l rest p f e.
-        let same : k ≡ l = name_once k l (drop next text) rest (sym t.stood.split ∙ e) in
-        let end = (t.only tt (drop next text) tt tt t.stood.split).1 in
+    only = λ k rest p f e.
+        let same : kind ≡ k = sym p in
+        let end = (t.only tt rest tt tt (e ∙ ap (λ (j : Kind). kind_name j ++ rest) p)).1 in
         (same, end ∙ ap (λ (j : Kind). at + length (kind_name j)) same);
   }
-
-  -- none of the first kinds is named there
-  abbrev pub Unnamed : ℕ → Type 0
-  Unnamed i = (k : Kind) → kind_number k < i → NoBytes (kind_name k) text at
-
-  few_kinds : (k : Kind) → kind_number k < 7
-  few_kinds Box = omega arith
-  few_kinds Wedge = omega arith
-  few_kinds Drum = omega arith
-  few_kinds Union = omega arith
-  few_kinds Inter = omega arith
-  few_kinds Diff = omega arith
-  few_kinds Triangle = omega arith
-
-  pub all_unnamed : {i : ℕ} → 7 ≤ i → Unnamed i → Missing Any kind_name Any text at
-  all_unnamed l unnamed = record { none = λ k rest p f e. (unnamed k (omega (arith, few_kinds k))).none tt rest tt tt e }
 
   -- ---- a tab and a number
 

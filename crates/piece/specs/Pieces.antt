@@ -45,6 +45,10 @@ Any a = Unit {0}
 abbrev pub ReadsBytes : List ℕ → List ℕ → ℕ → Option ℕ → Type 0
 ReadsBytes bytes text at o = Ends {A = Unit {0}} Any (λ u. bytes) Any text at tt o
 
+-- the name of one kind
+abbrev pub TriesName : List ℕ → ℕ → Kind → Option (Found Kind) → Type 0
+TriesName text at kind o = Reads (λ k. k ≡ kind) kind_name Any text at o
+
 -- the name of some kind
 abbrev pub ReadsName : List ℕ → ℕ → Option (Found Kind) → Type 0
 ReadsName text at o = Reads Any kind_name Any text at o

@@ -4,21 +4,10 @@
 
 ghost use Rattle.std.specs.Prelude.{◌≤◌, ◌≡◌, length};
 ghost use Rattle.rules.specs.Text.{kind_name};
-ghost use Rattle.piece.specs.Pieces.{ReadsBytes, ReadsName, ReadsField, ReadsFields, ReadsLine, ReadsCount, ReadsHeader};
+ghost use Rattle.piece.specs.Pieces.{ReadsBytes, TriesName, ReadsName, ReadsField, ReadsFields, ReadsLine, ReadsCount, ReadsHeader};
 
 use number::Found;
 use rules::Kind;
-
-// The kinds of rows, in the order of word 0.
-const KINDS: [Kind; 7] = [
-    Kind::Box,
-    Kind::Wedge,
-    Kind::Drum,
-    Kind::Union,
-    Kind::Inter,
-    Kind::Diff,
-    Kind::Triangle,
-];
 
 // The name that zone text has for a kind.
 pub fn kind_name(kind: Kind) -> &'static [u8]
@@ -48,17 +37,39 @@ fn read_bytes(text: &[u8], at: usize, bytes: &[u8]) -> Option<usize>
     right.then_some(next)
 }
 
-// The kind that is named. No name begins another, so at most one stands there.
+// One kind, if it is named.
+fn try_name(text: &[u8], at: usize, kind: Kind) -> Option<Found<Kind>>
+    requires { at ≤ length text.now }
+    ensures { TriesName text.now at kind result }
+{
+    let next = read_bytes(text, at, kind_name(kind))?;
+    Some(Found { value: kind, next })
+}
+
+// The kind that is named. No name begins another, so at most one stands there. By a loop over the kinds a text takes a fifteenth longer to read.
 fn read_name(text: &[u8], at: usize) -> Option<Found<Kind>>
     requires { at ≤ length text.now }
     ensures { ReadsName text.now at result }
 {
-    for kind in KINDS {
-        if let Some(next) = read_bytes(text, at, kind_name(kind)) {
-            return Some(Found { value: kind, next });
-        }
+    if let Some(found) = try_name(text, at, Kind::Box) {
+        return Some(found);
     }
-    None
+    if let Some(found) = try_name(text, at, Kind::Wedge) {
+        return Some(found);
+    }
+    if let Some(found) = try_name(text, at, Kind::Drum) {
+        return Some(found);
+    }
+    if let Some(found) = try_name(text, at, Kind::Union) {
+        return Some(found);
+    }
+    if let Some(found) = try_name(text, at, Kind::Inter) {
+        return Some(found);
+    }
+    if let Some(found) = try_name(text, at, Kind::Diff) {
+        return Some(found);
+    }
+    try_name(text, at, Kind::Triangle)
 }
 
 // A tab and the number after it.

@@ -77,16 +77,15 @@ fn count_children(times: &mut [u8; 127], table: &[i32], row: usize)
     }
 }
 
-// How often each row is named as a child.
-fn child_times(table: &[i32], rows: usize) -> [u8; 127]
+// How often each row is named as a child. The counts are lent: handed back by value they would lie on the stack twice.
+fn child_times(times: &mut [u8; 127], table: &[i32], rows: usize)
     requires { SoundRows table.now rows }
-    ensures { result ≡ times_to table.now rows }
+    ensures { times.new ≡ times_to table.now rows }
 {
-    let mut times: [u8; 127] = [0; 127];
+    *times = [0; 127];
     for parent in 0..rows {
-        count_children(&mut times, table, parent);
+        count_children(times, table, parent);
     }
-    times
 }
 
 // Every row below `last` is a child once.
@@ -104,7 +103,8 @@ fn check_children(table: &[i32], rows: usize) -> Result<(), Refusal>
     requires { SoundRows table.now rows }
     ensures { result ≡ checked_by (child_refusal table.now) }
 {
-    let times = child_times(table, rows);
+    let mut times: [u8; 127] = [0; 127];
+    child_times(&mut times, table, rows);
     check_once(&times, rows - 1)
 }
 

@@ -16,8 +16,8 @@ put_number-size-requires c = omega (arith, few_bytes (to_z w32 (of_z w32 c.args.
 pub slice_bounds-own-end : goal.slice_bounds-own-end
 slice_bounds-own-end c = omega (arith, c.put_number-size.ensures.end, c.put_number-size.auto.text, few_bytes (to_z w32 (of_z w32 c.args.value)))
 
-pub slice_bounds-eq-end-2 : goal.slice_bounds-eq-end-2
-slice_bounds-eq-end-2 c =
+pub slice_bounds-same-end-2 : goal.slice_bounds-same-end-2
+slice_bounds-same-end-2 c =
     let size = c.put_number-size in
     sym (length-take-le _ _ (omega (arith, size.ensures.end, size.auto.text, few_bytes (to_z w32 (of_z w32 c.args.value)))))
 
@@ -25,4 +25,4 @@ pub returns : goal.returns
 returns c =
     let lent = to_z-of_z w32 c.args.value c.ranges.value in
     let own = put_taken (few_bytes (to_z w32 (of_z w32 c.args.value))) c.put_number-size.ensures in
-    confirmed c.args.text.now c.args.at c.args.next (own ∙ ap number_text lent) lent c.eq-right.ensures c.then_some.ensures
+    confirmed c.args.text.now c.args.at c.args.next (own ∙ ap number_text lent) lent c.same-right.ensures c.then_some.ensures

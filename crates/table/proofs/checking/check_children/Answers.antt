@@ -10,9 +10,8 @@ use Rattle.table.proofs.checking.check_children.Goals as goal
 
 pub returns : goal.returns
 returns c =
-    let s = c.before.before.before in
-    let t = s.args.table.now in
-    let all : s.args.rows ≡ row_count t = omega arith in
+    let t = c.args.table.now in
+    let all : c.args.rows ≡ row_count t = omega arith in
     c.check_once.ensures
-    ∙ (λ i. checked_by (rulings (once_rule ((c.child_times-times.ensures ∙ ap (times_to t) all) i)) 0 (all i - 1)))
+    ∙ (λ i. checked_by (rulings (once_rule ((c.child_times.ensures ∙ ap (times_to t) all) i)) 0 (all i - 1)))
     ∙ ap checked_by (once_rules t (omega arith))
