@@ -110,4 +110,12 @@ impl Rows {
             _ => Ok(()),
         }
     }
+
+    // Adds what the lines of a text add.
+    pub fn add_all(&mut self, text: &[u8]) -> Result<(), Fault> {
+        for line in text.split_inclusive(|b| *b == b'\n') {
+            self.add(Line::read(line))?;
+        }
+        Ok(())
+    }
 }

@@ -108,10 +108,15 @@ fn list_of<'a>(held: &Held<'_>, words: &'a mut [u64; LIST_WORDS]) -> Result<&'a 
 }
 
 // Asks the list that is set about a point.
-fn ask_list_point(rt: &impl Print, held: &Held<'_>, point: Point) -> Result<(), Fault> {
+fn ask_list_point(
+    rt: &impl Print,
+    held: &Held<'_>,
+    table: &[i32],
+    point: Point,
+) -> Result<(), Fault> {
     let mut words: [u64; LIST_WORDS] = [0; LIST_WORDS];
     let list = list_of(held, &mut words)?;
-    answers::located(rt, zone::list_point(held.table(), list, point));
+    answers::located(rt, zone::list_point(table, list, point));
     Ok(())
 }
 
@@ -119,12 +124,13 @@ fn ask_list_point(rt: &impl Print, held: &Held<'_>, point: Point) -> Result<(), 
 fn ask_waterfall(
     rt: &impl Print,
     held: &Held<'_>,
+    table: &[i32],
     rectangle: Rectangle,
     picture: Area<{ pictures::MOST }>,
 ) -> Result<(), Fault> {
     let mut words: [u64; LIST_WORDS] = [0; LIST_WORDS];
     let list = list_of(held, &mut words)?;
-    pictures::draw(rt, held.table(), list, rectangle, picture);
+    pictures::draw(rt, table, list, rectangle, picture);
     Ok(())
 }
 
@@ -143,8 +149,12 @@ fn search_frames(rt: &impl Print, table: &[i32], list: &[u64], codes: &[i16], sc
 }
 
 // Searches, where the list and the frame that are set are right.
-fn ask_search(rt: &impl Print, held: &Held<'_>, search: Search) -> Result<(), Fault> {
-    let table = held.table();
+fn ask_search(
+    rt: &impl Print,
+    held: &Held<'_>,
+    table: &[i32],
+    search: Search,
+) -> Result<(), Fault> {
     let mut words: [u64; LIST_WORDS] = [0; LIST_WORDS];
     let list = list_of(held, &mut words)?;
     let mut codes: [i16; 65537] = [0; 65537];
@@ -163,14 +173,15 @@ fn ask_search(rt: &impl Print, held: &Held<'_>, search: Search) -> Result<(), Fa
 }
 
 // Asks what a line asks, and tells the answer.
-pub fn ask(rt: &impl Print, held: &Held<'_>, line: Line<'_>) -> Result<(), Fault> {
-    let table = held.table();
+pub fn ask(rt: &impl Print, held: &Held<'_>, table: &[i32], line: Line<'_>) -> Result<(), Fault> {
     match call_of(line)? {
         Call::CheckTable => answers::checked(rt, zone::check_table(table)),
         Call::TreePoint(point) => answers::located(rt, zone::tree_point(table, point)),
-        Call::ListPoint(point) => ask_list_point(rt, held, point)?,
-        Call::Search(search) => ask_search(rt, held, search)?,
-        Call::ListWaterfall { rectangle, picture } => ask_waterfall(rt, held, rectangle, picture)?,
+        Call::ListPoint(point) => ask_list_point(rt, held, table, point)?,
+        Call::Search(search) => ask_search(rt, held, table, search)?,
+        Call::ListWaterfall { rectangle, picture } => {
+            ask_waterfall(rt, held, table, rectangle, picture)?
+        }
         Call::RewriteTree { tree, work } => rewriting::rewrite(rt, table, tree, work),
         Call::MakeList(area) => make_list(rt, table, numbers::read_window(held.window)?, area),
         Call::WriteText(area) => write_text(rt, table, area),

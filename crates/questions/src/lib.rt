@@ -34,12 +34,10 @@ use comparing::Axes;
 use lines::rows::Rows;
 use lines::{Fault, Line, say, say_bytes};
 
-// What the lines have set so far: a zone, with what its own line says after the word until the next line is read, and of each other line what follows its
-// word.
+// What the lines have set so far: what follows the word of the last line with it, of a zone its place in the text, since the lines after it are read too.
 #[derive(Clone, Copy, Default)]
 struct Held<'a> {
-    zone: Option<Rows>,
-    begun: &'a [u8],
+    zone: Option<usize>,
     list: &'a [u8],
     frame: &'a [u8],
     window: &'a [u8],
@@ -47,57 +45,43 @@ struct Held<'a> {
 }
 
 impl Held<'_> {
-    // The table of the zone.
-    fn table(&self) -> &[i32] {
-        match &self.zone {
-            Some(rows) => rows.table(),
-            None => &[],
-        }
+    // The zone, from what follows its word to the end of a text; nothing before the first zone.
+    fn zone_in<'t>(&self, text: &'t [u8]) -> &'t [u8] {
+        self.zone.and_then(|start| text.get(start..)).unwrap_or(b"")
     }
-}
-
-// A row more; it belongs to no zone before the first one.
-fn add_row(held: &mut Held<'_>, line: Line<'_>) -> Result<(), Fault> {
-    match &mut held.zone {
-        Some(rows) => rows.add(line),
-        None => Ok(()),
-    }
-}
-
-// What follows the word `zone` may hold a row, after a tab: it is read with the line after it.
-fn begin(held: &mut Held<'_>) -> Result<(), Fault> {
-    let begun = Line::read(held.begun);
-    held.begun = b"";
-    add_row(held, begun)
 }
 
 // Asks what a line asks, after its name, and ends the line.
-fn ask(rt: &impl Print, held: &Held<'_>, line: Line<'_>) -> Result<(), Fault> {
+fn ask(rt: &impl Print, held: &Held<'_>, table: &[i32], line: Line<'_>) -> Result<(), Fault> {
     say_bytes(rt, line.name);
-    let asked = asking::ask(rt, held, line);
+    let asked = asking::ask(rt, held, table, line);
     say(rt, "\n");
     asked
 }
 
-// Does what a line says: it sets something, or asks.
-fn obey<'a>(rt: &impl Print, held: &mut Held<'a>, line: Line<'a>) -> Result<(), Fault> {
-    if line.word != b"zone".as_slice() {
-        begin(held)?;
+// Does what the line says that ends a text: it sets something, or asks. What follows the word `zone` may hold a row, after a tab: it is read with the line
+// after it.
+fn obey<'a>(
+    rt: &impl Print,
+    held: &mut Held<'a>,
+    text: &[u8],
+    line: Line<'a>,
+) -> Result<(), Fault> {
+    if line.word == b"zone".as_slice() {
+        held.zone = text.len().checked_sub(line.rest.len());
+        return Ok(());
     }
+    let mut rows = Rows::new();
+    rows.add_all(held.zone_in(text))?;
     match line.word {
-        b"" => {}
-        b"row" | b"words" | b"again" => add_row(held, line)?,
-        b"zone" => {
-            held.zone = Some(Rows::new());
-            held.begun = line.rest;
-        }
+        b"" | b"row" | b"words" | b"again" => {}
         b"list" => held.list = line.rest,
         b"frame" => held.frame = line.rest,
         b"window" => held.window = line.rest,
         b"columns" => held.axes.columns = line.rest,
         b"codes" => held.axes.codes = line.rest,
         b"frames" => held.axes.frames = line.rest,
-        _ => ask(rt, held, line)?,
+        _ => ask(rt, held, rows.table(), line)?,
     }
     Ok(())
 }
@@ -105,8 +89,11 @@ fn obey<'a>(rt: &impl Print, held: &mut Held<'a>, line: Line<'a>) -> Result<(), 
 // Obeys every line, up to the first that says nothing, or says it of something that is not right.
 fn obey_all(rt: &HostRuntime, text: &[u8]) {
     let mut held = Held::default();
+    let mut end: usize = 0;
     for (i, line) in text.split_inclusive(|b| *b == b'\n').enumerate() {
-        if obey(rt, &mut held, Line::read(line)).is_err() {
+        end += line.len();
+        let so_far = lines::without_end(&text[..end]);
+        if obey(rt, &mut held, so_far, Line::read(line)).is_err() {
             let number = i + 1;
             say(
                 rt,
