@@ -6,21 +6,12 @@ use mathlib.Core.Bool.{Bool, true, false}
 use mathlib.Core.List.{List}
 use mathlib.Core.Option.{Option, some}
 use mathlib.Core.Path.{◌≡◌, refl, sym, ap, ◌∙◌}
-use borrow.Author.Tests.{eqb-true}
-use lib.Dec.{eqb}
 use Rattle.std.specs.Prelude.{Some, None, Ok, if◌then◌else◌}
-use Rattle.rules.specs.declared.Hit.{Hit}
 use Rattle.rules.specs.Told.{fine, told_searched, searched_of}
 use Rattle.rules.specs.TreeCalls.{search_tale}
 use Rattle.ground.specs.Lists.{rest, below, or_else, find_if, count_if}
 use Rattle.ground.proofs.Counting.{rest_cons, rest_done, rest_all, or_else_none}
-use Rattle.frame.specs.Tallies.{Tally, seen, seen_count, found_in, stepped, Tallied}
-
--- the tally so far, with what is left to come, is that of all
-pub record Running (test : ℕ → Bool) (n k : ℕ) (t : Tally) : Type 0 where
-  pub first : or_else (seen t) (find_if test (rest k n)) ≡ find_if test (below n)
-  pub count : seen_count t + count_if test (rest k n) ≡ count_if test (below n)
-  pub few : seen_count t ≤ k
+use Rattle.frame.specs.Tallies.{Tally, seen, seen_count, stepped, Tallied, Running}
 
 pub begins : (test : ℕ → Bool) (n : ℕ) → Running test n 0 None
 begins test n = record { first = ap (find_if test) (rest_all n); count = ap (λ (ks : List ℕ). 0 + count_if test ks) (rest_all n) ∙ zero-add (count_if test (below n)); few = omega arith }
@@ -62,14 +53,6 @@ ends test {n} {k} {t} l r = record {
   first = or_else_none (seen t) ∙ ap (λ (ks : List ℕ). or_else (seen t) (find_if test ks)) (sym (rest_done k n l)) ∙ r.first;
   count = sym (add-zero (seen_count t)) ∙ ap (λ (ks : List ℕ). seen_count t + count_if test ks) (sym (rest_done k n l)) ∙ r.count;
 }
-
--- what is found by two numbers is counted by the second
-pub count_found : (found : Hit) → seen_count (found_in found) ≡ found.count
-count_found found = go (eqb found.count 0) refl
-  where
-    go : (none : Bool) → eqb found.count 0 ≡ none → seen_count (if none then None else Some found) ≡ found.count
-    go true e = sym (eqb-true found.count 0 e)
-    go false e = refl
 
 -- and that is what the search tells
 pub tally_told : (t : Tally) → told_searched (searched_of (Ok t)) ≡ fine (search_tale (seen t) (seen_count t))

@@ -1,9 +1,9 @@
 -- Columns by their two ends; and a running tally of inside samples: the first of them, and how many.
-use Rattle.std.specs.Prelude.{ℕ, ◌+◌, ◌-◌, Bool, true, false, ◌&&◌, ◌≡◌, ℤ, pos, ◌+ℤ◌, Some, None, eqb, if◌then◌else◌}
+use Rattle.std.specs.Prelude.{ℕ, ◌+◌, ◌-◌, ◌≤◌, Bool, true, false, ◌&&◌, ◌≡◌, ℤ, pos, ◌+ℤ◌, Some, None}
 use Rattle.std.specs.Prelude as prelude
 use Rattle.std.proofs.Math.Option.{Option, none, some}
 use Rattle.std.specs.Int.Signed.{le_z}
-use Rattle.ground.specs.Lists.{below, find_if, count_if}
+use Rattle.ground.specs.Lists.{rest, below, or_else, find_if, count_if}
 use Rattle.rules.specs.Ranges.{within, columns}
 use Rattle.rules.specs.declared.Hit.{Hit}
 
@@ -23,10 +23,6 @@ abbrev pub seen_count : Tally → ℕ
 seen_count None = 0
 seen_count (Some found) = found.count
 
--- what is found by two numbers: nothing while the count is 0
-abbrev pub found_in : Hit → Tally
-found_in found = if eqb found.count 0 then None else Some found
-
 -- one sample more
 abbrev pub stepped : Tally → ℕ → Bool → Tally
 stepped t k false = t
@@ -37,3 +33,9 @@ stepped (Some found) k true = Some (record { first = found.first; count = found.
 pub record Tallied (test : ℕ → Bool) (n : ℕ) (t : Tally) : Type 0 where
   pub first : seen t ≡ find_if test (below n)
   pub count : seen_count t ≡ count_if test (below n)
+
+-- a tally of the first k samples: with what is left to come, it is that of all n
+pub record Running (test : ℕ → Bool) (n k : ℕ) (t : Tally) : Type 0 where
+  pub first : or_else (seen t) (find_if test (rest k n)) ≡ find_if test (below n)
+  pub count : seen_count t + count_if test (rest k n) ≡ count_if test (below n)
+  pub few : seen_count t ≤ k

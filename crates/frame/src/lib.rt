@@ -7,7 +7,7 @@ ghost use Rattle.std.proofs.Math.Option.{none};
 ghost use Rattle.rules.specs.Boxes.{holds, everywhere};
 ghost use Rattle.rules.specs.Frame.{most_samples, code_at, point_of, frame_refusal};
 ghost use Rattle.laws.specs.Checking.{checked_by};
-ghost use Rattle.frame.specs.Tallies.{columns_right, found_in, stepped};
+ghost use Rattle.frame.specs.Tallies.{columns_right, seen_count, stepped};
 
 use rules::{Axis, Hit, Place, Point, Refusal, Rule};
 
@@ -46,30 +46,19 @@ pub fn point_at(samples: &[i16], place: Place, k: usize) -> Point
     }
 }
 
-// The first inside sample and how many there are, with sample k. The count is 0 while there is none: an `Option` is a word more to carry from
-// sample to sample.
-pub fn counted(found: Hit, k: usize, inside: bool) -> Hit
-    requires { found.count ≤ most_samples }
-    ensures { found_in result ≡ stepped (found_in found) k inside }
+// The first inside sample and how many there are, with sample k.
+pub fn counted(found: Option<Hit>, k: usize, inside: bool) -> Option<Hit>
+    requires { seen_count found ≤ most_samples }
+    ensures { result ≡ stepped found k inside }
 {
     if !inside {
         return found;
     }
-    if found.count == 0 {
-        return Hit { first: k, count: 1 };
+    match found {
+        Some(hit) => Some(Hit {
+            count: hit.count + 1,
+            ..hit
+        }),
+        None => Some(Hit { first: k, count: 1 }),
     }
-    Hit {
-        count: found.count + 1,
-        ..found
-    }
-}
-
-// What was found, if there is an inside sample.
-pub fn found_in(found: Hit) -> Option<Hit>
-    ensures { result ≡ found_in found }
-{
-    if found.count == 0 {
-        return None;
-    }
-    Some(found)
 }

@@ -13,6 +13,7 @@ ghost use Rattle.rules.specs.Ranges.{within, columns};
 ghost use Rattle.frame.specs.Tallies.{Tallied};
 ghost use Rattle.span.specs.Along.{places, code_point};
 ghost use Rattle.says.specs.Asking.{inside_by, Ready};
+ghost use Rattle.sweep.specs.Seeing.{Before, Begun, SeenFirst};
 ghost use Rattle.sweep.specs.Sweeps.{fill_places, Known, telling, with_hit};
 
 use along::Entries;
@@ -32,6 +33,13 @@ pub struct Patch {
     pub roof: u64,
     pub inside: bool,
     pub hit: bool,
+}
+
+// The first inside sample of a frame, and the patch by which it was looked at.
+#[derive(Clone, Copy)]
+pub struct Seen {
+    pub sample: usize,
+    pub patch: Patch,
 }
 
 // The places that a column holds, from the place of the code before it to that of its own.
@@ -93,6 +101,7 @@ pub fn inside_at(asked: Asked, table: &[i32], list: &[u64], p: Point) -> bool
 }
 
 // The patch around a point.
+#[inline(always)]
 fn renewed(asked: Asked, table: &[i32], list: &[u64], p: Point) -> Patch
     requires ready { Ready asked table.now list.now }
     requires p_value { holds everywhere p ≡ true }
@@ -112,6 +121,7 @@ fn renewed(asked: Asked, table: &[i32], list: &[u64], p: Point) -> Patch
 }
 
 // A new patch for a column that does not hold too many codes.
+#[inline(always)]
 fn fresh(asked: Asked, table: &[i32], list: &[u64], p: Point, s: Stretch, q: Patch) -> Patch
     requires ready { Ready asked table.now list.now }
     requires p_value { holds everywhere p ≡ true }
@@ -144,6 +154,7 @@ fn some_inside(
 }
 
 // One column: from the patch that is there, else from a new one, else by the walk down the column.
+#[inline(always)]
 fn look(
     asked: Asked,
     table: &[i32],
@@ -173,13 +184,51 @@ fn look(
     with_hit(n, hit)
 }
 
-// The first inside sample of a frame and how many there are, if there is one.
-pub fn scan(asked: Asked, table: &[i32], list: &[u64], samples: &[i16], place: Place) -> Option<Hit>
+// The column of sample k, after a code at a place. What is done of a column is inlined, so that a patch stays in registers from sample to sample.
+#[inline(always)]
+fn look_at(
+    asked: Asked,
+    table: &[i32],
+    list: &[u64],
+    samples: &[i16],
+    place: Place,
+    k: usize,
+    before: u64,
+    q: Patch,
+    entries: &mut Entries,
+) -> Patch
     requires ready { Ready asked table.now list.now }
     requires place_value { frame_refusal samples.now place ≡ none }
-    ensures { Tallied (sample_inside (inside_by asked table.now list.now) samples.now place) (length samples.now) result }
+    requires k_in_bounds { k < length samples.now }
+    requires preceded { Before samples.now k before }
+    requires known { Known (inside_by asked table.now list.now) place.frame q }
+    ensures known { Known (inside_by asked table.now list.now) place.frame result }
+    ensures told { result.hit ≡ sample_inside (inside_by asked table.now list.now) samples.now place k }
 {
-    let mut entries = Entries::new();
+    look(
+        asked,
+        table,
+        list,
+        frame::point_at(samples, place, k),
+        before,
+        q,
+        entries,
+    )
+}
+
+// The first inside sample of a frame, if there is one.
+fn first_inside(
+    asked: Asked,
+    table: &[i32],
+    list: &[u64],
+    samples: &[i16],
+    place: Place,
+    entries: &mut Entries,
+) -> Option<Seen>
+    requires ready { Ready asked table.now list.now }
+    requires place_value { frame_refusal samples.now place ≡ none }
+    ensures { SeenFirst (inside_by asked table.now list.now) samples.now place result }
+{
     let mut before = code_place(samples, place, 0);
     let mut q = Patch {
         from: 1,
@@ -189,12 +238,53 @@ pub fn scan(asked: Asked, table: &[i32], list: &[u64], samples: &[i16], place: P
         inside: false,
         hit: false,
     };
-    let mut found = Hit { first: 0, count: 0 };
     for k in 0..samples.len() {
-        let p = frame::point_at(samples, place, k);
-        q = look(asked, table, list, p, before, q, &mut entries);
+        q = look_at(asked, table, list, samples, place, k, before, q, entries);
+        if q.hit {
+            return Some(Seen {
+                sample: k,
+                patch: q,
+            });
+        }
+        before = code_place(samples, place, k);
+    }
+    None
+}
+
+// The first inside sample and how many there are, once the first is seen.
+fn count_on(
+    asked: Asked,
+    table: &[i32],
+    list: &[u64],
+    samples: &[i16],
+    place: Place,
+    seen: Seen,
+    entries: &mut Entries,
+) -> Option<Hit>
+    requires ready { Ready asked table.now list.now }
+    requires place_value { frame_refusal samples.now place ≡ none }
+    requires begun { Begun (inside_by asked table.now list.now) samples.now place seen }
+    ensures { Tallied (sample_inside (inside_by asked table.now list.now) samples.now place) (length samples.now) result }
+{
+    let mut before = code_place(samples, place, seen.sample);
+    let mut q = seen.patch;
+    let mut found = frame::counted(None, seen.sample, true);
+    for k in seen.sample + 1..samples.len() {
+        q = look_at(asked, table, list, samples, place, k, before, q, entries);
         found = frame::counted(found, k, q.hit);
         before = code_place(samples, place, k);
     }
-    frame::found_in(found)
+    found
+}
+
+// The first inside sample of a frame and how many there are, if there is one. Before the first there is nothing to count, and after it there is one: no
+// sample has to ask.
+pub fn scan(asked: Asked, table: &[i32], list: &[u64], samples: &[i16], place: Place) -> Option<Hit>
+    requires ready { Ready asked table.now list.now }
+    requires place_value { frame_refusal samples.now place ≡ none }
+    ensures { Tallied (sample_inside (inside_by asked table.now list.now) samples.now place) (length samples.now) result }
+{
+    let mut entries = Entries::new();
+    let seen = first_inside(asked, table, list, samples, place, &mut entries)?;
+    count_on(asked, table, list, samples, place, seen, &mut entries)
 }

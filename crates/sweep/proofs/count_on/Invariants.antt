@@ -1,0 +1,6 @@
+use Rattle.says.specs.Asking.{inside_by}
+use Rattle.sweep.proofs.Traces.{Going}
+use Rattle.sweep.proofs.count_on.Given as goal
+
+abbrev pub invariant-loop-k : goal.invariant-loop-k
+invariant-loop-k l = Going (inside_by l.asked l.table l.list) l.samples l.place l.before l.q l.found l.k
