@@ -3,7 +3,7 @@ use Prim.Native.Nat.{ℕ, ◌+◌, ◌-◌, ◌<◌}
 use native.Mathlib.Omega.{arith}
 use mathlib.Core.Bool.{Bool, true}
 use mathlib.Core.List.{List}
-use mathlib.Core.Path.{◌≡◌, sym, ap, ◌∙◌}
+use mathlib.Core.Path.{◌≡◌, sym, ap, subst, ◌∙◌}
 use lib.IntN.{ℤ}
 use lib.ListN.{length}
 use Rattle.rules.specs.declared.Axis.TheVariants.{Frame}
@@ -35,7 +35,11 @@ module _ (is_inside : Point → Bool) (samples : List ℤ) (place : Place) where
       let last : code_at samples k ≡ code_at samples ((k + 1) - 1) = ap (code_at samples) same in
       record { is = is ∙ ap (raised Frame) last; ranged = ap (within columns) (sym last) ∙ ranged }
 
-  -- and it goes on with the next
-  pub goes_next : {before k : ℕ} {q : Patch} {t : Tally} → k < length samples → Going before q t k → {own : ℕ} → Before samples (k + 1) own → {r : Patch} → Known is_inside place.frame r
-      → Going own r (stepped t k (hits k)) (k + 1)
-  goes_next l g b known = record { preceded = b; running = goes_on hits l g.running; known = known }
+  -- and it goes on with the next, by what is told of sample k
+  pub goes_next : {before k : ℕ} {q : Patch} {t next : Tally} {hit : Bool} → k < length samples → Going before q t k → hit ≡ hits k → next ≡ stepped t k hit
+      → {own : ℕ} → own ≡ raised Frame (code_at samples k) → within columns (code_at samples k) ≡ true → {r : Patch} → Known is_inside place.frame r → Going own r next (k + 1)
+  goes_next {before} {k} {q} {t} l g told stepped_on is ranged known = record {
+    preceded = before_next k is ranged;
+    running = subst (λ (u : Tally). Running hits (length samples) (k + 1) u) (sym (stepped_on ∙ ap (stepped t k) told)) (goes_on hits l g.running);
+    known = known;
+  }

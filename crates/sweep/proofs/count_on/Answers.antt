@@ -1,12 +1,12 @@
 use Prim.Native.Nat.{◌+◌}
 use native.Mathlib.Omega.{arith}
-use mathlib.Core.Path.{◌≡◌, sym, ap, subst, ◌∙◌}
+use mathlib.Core.Path.{sym, subst}
 use lib.ListN.{length}
 use Rattle.laws.proofs.Columns.{frame_right}
 use Rattle.frame.proofs.Tallies.{ends}
-use Rattle.frame.specs.Tallies.{Tally, stepped, Running}
+use Rattle.frame.specs.Tallies.{Tally, Running}
 use Rattle.says.specs.Asking.{inside_by}
-use Rattle.sweep.proofs.Traces.{Going, hits, before_next, goes_next}
+use Rattle.sweep.proofs.Traces.{hits, before_next, goes_next}
 use Rattle.sweep.proofs.count_on.Goals as goal
 
 pub loop-k-init : goal.loop-k-init
@@ -29,15 +29,10 @@ counted-found-requires-in-loop-k c =
 
 pub loop-k-preserved : goal.loop-k-preserved
 loop-k-preserved c =
-    let is_inside = inside_by c.args.asked c.args.table.now c.args.list.now in
-    let samples = c.args.samples.now in
-    let place = c.args.place in
-    let k = c.loop-k.k in
-    let own = c.code_place-before-in-loop-k in
-    let next : c.counted-found-in-loop-k.result ≡ stepped c.loop-k.found k (hits is_inside samples place k) =
-    c.counted-found-in-loop-k.ensures ∙ ap (stepped c.loop-k.found k) c.look_at-q.ensures.told in
-    subst (λ (t : Tally). Going is_inside samples place own.result c.look_at-q.result t (k + 1)) (sym next)
-    (goes_next is_inside samples place c.loop-k-test.true c.loop-k.invariant (before_next is_inside samples place k own.ensures.value own.ensures.ranged) c.look_at-q.ensures.known)
+    let look = c.look_at-q.ensures in
+    let own = c.code_place-before-in-loop-k.ensures in
+    goes_next (inside_by c.args.asked c.args.table.now c.args.list.now) c.args.samples.now c.args.place c.loop-k-test.true c.loop-k.invariant
+    look.told c.counted-found-in-loop-k.ensures own.value own.ranged look.known
 
 pub returns : goal.returns
 returns c =
